@@ -1,0 +1,5 @@
+-- Commutative rings, finite sums and determinants.
+pub mod Ring
+pub mod RingLaws
+pub mod Sum
+pub mod Det

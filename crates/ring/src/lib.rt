@@ -1,0 +1,1 @@
+// Commutative rings, finite sums and determinants: definitions and laws only, in specs/.
