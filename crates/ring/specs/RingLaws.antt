@@ -84,7 +84,7 @@ module _ (R : Ring) where
   pow-⊗ x y zero = sym (⊗-one 𝟙)
   pow-⊗ x y (suc n) =
       ap (λ (t : C). (x ⊗ y) ⊗ t) (pow-⊗ x y n)
-      ∙ simp (⊗-assoc, ⊗-comm, ⊗-left-comm)
+      ∙ simp (⊗-assoc, ⊗-comm)
 
   pub pow-mul : (x : C) (m n : ℕ) → pow R x (m * n) ≡ pow R (pow R x m) n
   unfolding pow
@@ -106,3 +106,11 @@ module _ (R : Ring) where
   unfolding sign
   sign-sq zero = ⊗-one 𝟙
   sign-sq (suc n) = neg-⊗ (sign R n) (⊖ (sign R n)) ∙ ap (λ (t : C). ⊖ t) (⊗-neg (sign R n) (sign R n)) ∙ neg-neg (sign R n ⊗ sign R n) ∙ sign-sq n
+
+  -- a sign taken twice goes away
+  pub sign-twice : (m n : ℕ) → sign R (m + n) ⊗ sign R n ≡ sign R m
+  sign-twice m n =
+      ap (λ (t : C). t ⊗ sign R n) (sign-add m n)
+      ∙ ⊗-assoc (sign R m) (sign R n) (sign R n)
+      ∙ ap (λ (t : C). sign R m ⊗ t) (sign-sq n)
+      ∙ ⊗-one (sign R m)

@@ -1,0 +1,1 @@
+// Sylvester's matrix and the laws of its determinant: definitions and laws only, in specs/.
