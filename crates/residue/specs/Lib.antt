@@ -1,0 +1,2 @@
+-- Residues modulo a number, and what a prime modulus adds: inverses.
+pub mod Prime
