@@ -1,2 +1,4 @@
 -- Residues modulo a number, and what a prime modulus adds: inverses.
 pub mod Prime
+pub mod Remainder
+pub mod Residue
