@@ -2,3 +2,4 @@
 pub mod Prime
 pub mod Remainder
 pub mod Residue
+pub mod Inverse

@@ -108,7 +108,7 @@ prime-dec p = by-test (prime? p) refl
     by-test true e = yes (prime?-right p e)
     by-test false e = no (λ prime. true≢false (sym (prime?-all p prime) ∙ e))
 
--- the test on numbers: 0 and 1 pass, and so does the largest modulus
+-- the test on numbers: 0 and 1 pass too
 prime?-examples : (prime? 0 ≡ true) × (prime? 1 ≡ true) × (prime? 2 ≡ true) × (prime? 4 ≡ false) × (prime? 9 ≡ false) × (prime? 65537 ≡ true)
 unfolding prime?
 prime?-examples = (refl, refl, refl, refl, refl, refl)

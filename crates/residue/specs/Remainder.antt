@@ -3,10 +3,9 @@
 --   mod-mul-mod     (n % m) * k and n * k have one remainder by m
 --   mul-mod-mod     n * (k % m) and n * k have one remainder by m
 --   mul-mod         the remainder of a product, from the remainders
---   mod-drop        a multiple of m added changes no remainder by m
 use Prim.Native.Nat.{ℕ, _+_, _*_, _%_, _/_}
 use native.Mathlib.Nat.{mod-add-div, add-mul, mul-assoc, mul-comm, add-mul-mod-self-left}
-use mathlib.Core.Path.{_≡_, refl, sym, ap, _∙_}
+use mathlib.Core.Path.{_≡_, sym, ap, _∙_}
 
 pub mod-mul-mod : (n m k : ℕ) → (n % m * k) % m ≡ (n * k) % m
 mod-mul-mod n m k =
