@@ -1,0 +1,1 @@
+// Residues modulo a prime: definitions and laws only, in specs/.
