@@ -1,0 +1,3 @@
+-- Polynomials over a commutative ring: the ring of them, values, interpolation.
+pub mod Convolution
+pub mod Poly
