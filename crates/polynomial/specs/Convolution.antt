@@ -26,9 +26,9 @@ module _ (R : Ring) where
   conv-sum f g zero = sym (⊕-zero (f zero ⊗ g zero))
   conv-sum f g (suc k) =
       ap₂ (λ (l : ℕ) (t : C). (f zero ⊗ g l) ⊕ t)
-        (sym (sub-zero (suc k)))
-        (conv-sum (λ i. f (suc i)) g k
-        ∙ sum-ext R (suc k) (λ i. f (suc i) ⊗ g (k - i)) (λ i. f (suc i) ⊗ g (suc k - suc i)) (λ i b. ap (λ (l : ℕ). f (suc i) ⊗ g l) (sym (suc-sub-suc k i))))
+      (sym (sub-zero (suc k)))
+      (conv-sum (λ i. f (suc i)) g k
+      ∙ sum-ext R (suc k) (λ i. f (suc i) ⊗ g (k - i)) (λ i. f (suc i) ⊗ g (suc k - suc i)) (λ i b. ap (λ (l : ℕ). f (suc i) ⊗ g l) (sym (suc-sub-suc k i))))
 
   -- the same recursion on the other factor
   pub conv-last : (f g : ℕ → C) (k : ℕ) → conv f g (suc k) ≡ (f (suc k) ⊗ g zero) ⊕ conv f (λ i. g (suc i)) k
@@ -78,9 +78,9 @@ module _ (R : Ring) where
       let f′ : ℕ → C = λ i. f (suc i) in
       let g′ : ℕ → C = λ i. g (suc i) in
       ap₂ (λ (s t : C). s ⊕ t)
-        (⊗-assoc (f zero) (g zero) (h (suc k)))
-        (conv-dist (λ i. f zero ⊗ g′ i) (conv f′ g) h k
-        ∙ ap₂ (λ (s t : C). s ⊕ t) (conv-scale (f zero) g′ h k) (conv-assoc f′ g h k))
+      (⊗-assoc (f zero) (g zero) (h (suc k)))
+      (conv-dist (λ i. f zero ⊗ g′ i) (conv f′ g) h k
+      ∙ ap₂ (λ (s t : C). s ⊕ t) (conv-scale (f zero) g′ h k) (conv-assoc f′ g h k))
       ∙ sym (⊕-assoc (f zero ⊗ (g zero ⊗ h (suc k))) (f zero ⊗ conv g′ h k) (conv f′ (conv g h) k))
       ∙ ap (λ (t : C). t ⊕ conv f′ (conv g h) k) (sym (⊗-dist (f zero) (g zero ⊗ h (suc k)) (conv g′ h k)))
 

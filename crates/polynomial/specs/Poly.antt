@@ -71,7 +71,8 @@ module _ (R : Ring) where
     ⊗-assoc = times-assoc;
     ⊗-comm = times-comm;
     ⊗-one = times-one;
-    ⊗-dist = times-dist }
+    ⊗-dist = times-dist;
+  }
 
   pub poly-⊕ : (f g : ℕ → C) (k : ℕ) → Ring._⊕_ poly f g k ≡ f k ⊕ g k
   unfolding plus
