@@ -3,3 +3,4 @@ pub mod Ring
 pub mod RingLaws
 pub mod Sum
 pub mod Det
+pub mod SumLaws

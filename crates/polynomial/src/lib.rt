@@ -1,0 +1,1 @@
+// Polynomials over a commutative ring: definitions and laws only, in specs/.
