@@ -4,9 +4,9 @@
 --   one R           1, 0, 0, ..
 use Prim.Native.Nat.{ℕ, zero, suc, _-_}
 use native.Mathlib.Nat.{sub-zero, suc-sub-suc}
-use mathlib.Core.Path.{_≡_, refl, sym, ap, ap₂, _∙_, fun-ext}
+use mathlib.Core.Path.{_≡_, refl, sym, ap, ap₂, _∙_}
 use Rattle.ring.specs.Ring.{Ring}
-use Rattle.ring.specs.RingLaws.{zero-⊕, one-⊗, zero-⊗, dist-⊗, ⊕-left-comm}
+use Rattle.ring.specs.RingLaws.{one-⊗, zero-⊗, dist-⊗, ⊕-left-comm}
 use Rattle.ring.specs.Sum.{sum}
 use Rattle.ring.specs.SumLaws.{sum-ext}
 
@@ -28,7 +28,8 @@ module _ (R : Ring) where
       ap₂ (λ (l : ℕ) (t : C). (f zero ⊗ g l) ⊕ t)
       (sym (sub-zero (suc k)))
       (conv-sum (λ i. f (suc i)) g k
-      ∙ sum-ext R (suc k) (λ i. f (suc i) ⊗ g (k - i)) (λ i. f (suc i) ⊗ g (suc k - suc i)) (λ i b. ap (λ (l : ℕ). f (suc i) ⊗ g l) (sym (suc-sub-suc k i))))
+      ∙ sum-ext R (suc k) (λ i. f (suc i) ⊗ g (k - i)) (λ i. f (suc i) ⊗ g (suc k - suc i))
+      (λ i b. ap (λ (l : ℕ). f (suc i) ⊗ g l) (sym (suc-sub-suc k i))))
 
   -- the same recursion on the other factor
   pub conv-last : (f g : ℕ → C) (k : ℕ) → conv f g (suc k) ≡ (f (suc k) ⊗ g zero) ⊕ conv f (λ i. g (suc i)) k

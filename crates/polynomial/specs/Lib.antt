@@ -2,3 +2,4 @@
 pub mod Convolution
 pub mod Poly
 pub mod Value
+pub mod Interpolation

@@ -40,7 +40,7 @@ skip-bound (suc j) (suc k) (suc n) b = suc-le-suc-iff .1 (skip-bound j k n (suc-
 skip-bound (suc j) (suc k) zero b = absurd (not-suc-le-zero b)
 
 module _ (R : Ring) where
-  open Ring R using (C, _⊕_, _⊗_, ⊖_, 𝟘, 𝟙, ⊕-assoc, ⊕-zero, ⊗-assoc, ⊗-comm, ⊗-one, ⊗-dist)
+  open Ring R using (C, _⊕_, _⊗_, ⊖_, 𝟘, 𝟙, ⊕-assoc, ⊕-zero, ⊗-assoc, ⊗-one, ⊗-dist)
 
   abbrev pub AtMost : ℕ → (ℕ → C) → Type 0
   AtMost d f = (k : ℕ) → d < k → f k ≡ 𝟘
@@ -123,7 +123,8 @@ module _ (R : Ring) where
       ∙ ⊗-zero R (f zero)
 
   -- the first coefficient of one factor taken off
-  pub value-conv : (N : ℕ) (f g : ℕ → C) (x : C) → value (suc N) (conv R f g) x ≡ (f zero ⊗ value (suc N) g x) ⊕ (x ⊗ value N (conv R (λ i. f (suc i)) g) x)
+  pub value-conv : (N : ℕ) (f g : ℕ → C) (x : C)
+      → value (suc N) (conv R f g) x ≡ (f zero ⊗ value (suc N) g x) ⊕ (x ⊗ value N (conv R (λ i. f (suc i)) g) x)
   unfolding conv
   value-conv N f g x =
       let g′ : ℕ → C = λ i. g (suc i) in
@@ -138,7 +139,8 @@ module _ (R : Ring) where
       regroup a b y u v = simp (⊗-dist, ⊕-assoc, ⊗-left-comm R)
 
   -- the value of a product is the product of the values
-  pub value-⊗ : (d e : ℕ) (f g : ℕ → C) (x : C) → AtMost d f → AtMost e g → value (suc (d + e)) (conv R f g) x ≡ value (suc d) f x ⊗ value (suc e) g x
+  pub value-⊗ : (d e : ℕ) (f g : ℕ → C) (x : C) → AtMost d f → AtMost e g
+      → value (suc (d + e)) (conv R f g) x ≡ value (suc d) f x ⊗ value (suc e) g x
   value-⊗ zero e f g x h l =
       rw zero-add (value-ext (suc e) (conv R f g) (λ i. f zero ⊗ g i) x (λ i b. conv-constant f g h i)
       ∙ value-scale (suc e) (f zero) g x
@@ -202,7 +204,8 @@ module _ (R : Ring) where
     value = value-⊗ d e f g x (s .bound) (t .bound) ∙ ap₂ (λ (a b : C). a ⊗ b) (s .value) (t .value);
   }
 
-  pub takes-alt : (x : C) (d n : ℕ) (f : ℕ → ℕ → C) (v : ℕ → C) → ((j : ℕ) → j < n → Takes x d (f j) (v j)) → Takes x d (alt (poly R) n f) (alt R n v)
+  pub takes-alt : (x : C) (d n : ℕ) (f : ℕ → ℕ → C) (v : ℕ → C)
+      → ((j : ℕ) → j < n → Takes x d (f j) (v j)) → Takes x d (alt (poly R) n f) (alt R n v)
   unfolding alt
   takes-alt x d zero f v h = takes-𝟘 x d
   takes-alt x d (suc n) f v h =
@@ -213,7 +216,9 @@ module _ (R : Ring) where
       (h zero (zero-lt-suc n))
       (takes-⊖ x d (alt (poly R) n f′) (alt R n v′) rest)
 
-  pub takes-det : (x : C) (n : ℕ) (A : ℕ → ℕ → ℕ → C) (B : ℕ → ℕ → C) (e : ℕ → ℕ) → ((i k : ℕ) → i < n → k < n → Takes x (e i) (A i k) (B i k)) → Takes x (total n e) (det (poly R) n A) (det R n B)
+  pub takes-det : (x : C) (n : ℕ) (A : ℕ → ℕ → ℕ → C) (B : ℕ → ℕ → C) (e : ℕ → ℕ)
+      → ((i k : ℕ) → i < n → k < n → Takes x (e i) (A i k) (B i k))
+      → Takes x (total n e) (det (poly R) n A) (det R n B)
   unfolding det total
   takes-det x zero A B e h = takes-𝟙 x zero
   takes-det x (suc n) A B e h =
@@ -222,4 +227,5 @@ module _ (R : Ring) where
       (λ j. B zero j ⊗ det R n (minor R B j))
       (λ j b. takes-⊗ x (e zero) (total n (λ i. e (suc i))) (A zero j) (det (poly R) n (minor (poly R) A j)) (B zero j) (det R n (minor R B j))
       (h zero j (zero-lt-suc n) b)
-      (takes-det x n (minor (poly R) A j) (minor R B j) (λ i. e (suc i)) (λ i k c l. h (suc i) (skip j k) (suc-le-suc-iff .1 c) (skip-bound j k n l))))
+      (takes-det x n (minor (poly R) A j) (minor R B j) (λ i. e (suc i))
+      (λ i k c l. h (suc i) (skip j k) (suc-le-suc-iff .1 c) (skip-bound j k n l))))
