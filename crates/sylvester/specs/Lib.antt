@@ -2,4 +2,3 @@
 pub mod Stub
 pub mod Sylvester
 pub mod Shift
-pub mod Laws

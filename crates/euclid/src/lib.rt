@@ -1,0 +1,1 @@
+// Division of rows and the monic remainder sequence: definitions and laws only, in specs/.
