@@ -2,5 +2,4 @@
 pub mod Row
 pub mod RowLaws
 pub mod Division
-pub mod DivisionLaws
 pub mod Sequence
