@@ -2,4 +2,7 @@
 pub mod Ring
 pub mod RingLaws
 pub mod Sum
+pub mod Alt
+pub mod Matrix
 pub mod Det
+pub mod DetLaws
