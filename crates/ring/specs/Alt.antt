@@ -4,6 +4,7 @@
 --   alt-add         the sum of two alternating sums, term by term
 --   alt-neg         the negative, term by term
 --   alt-scale       a common factor
+--   alt-linear      the two together: a sum and a multiple of another
 --   alt-zero        terms that are all zero
 --   alt-swap        the two sums of a double sum may be exchanged
 --   alt-single      a sum with one term that may differ from zero
@@ -39,6 +40,9 @@ module _ (R : Ring) where
   alt-scale (suc n) c f =
       ap (λ (t : C). (c ⊗ f zero) ⊕ (⊖ t)) (alt-scale n c (λ i. f (suc i)))
       ∙ simp (⊗-dist, ⊗-neg R)
+
+  pub alt-linear : (n : ℕ) (c : C) (f g : ℕ → C) → alt R n (λ i. f i ⊕ c ⊗ g i) ≡ alt R n f ⊕ c ⊗ alt R n g
+  alt-linear n c f g = alt-add n f (λ i. c ⊗ g i) ∙ ap (λ (t : C). alt R n f ⊕ t) (alt-scale n c g)
 
   pub alt-neg : (n : ℕ) (f : ℕ → C) → alt R n (λ i. ⊖ (f i)) ≡ ⊖ alt R n f
   unfolding alt

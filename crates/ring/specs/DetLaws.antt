@@ -3,10 +3,11 @@ use Prim.Native.Nat.{ℕ, zero, suc, _≤_, _<_}
 use native.Mathlib.Omega.{arith}
 use mathlib.Core.Path.{_≡_, refl, sym, ap, ap₂, fun-ext, _∙_}
 use mathlib.Core.Logic.{_≢_}
-use Rattle.ring.specs.Ring.{Ring, sign}
-use Rattle.ring.specs.RingLaws.{one-⊗, ⊗-left-comm}
+use Rattle.ring.specs.Ring.{Ring, sign, pow}
+use Rattle.ring.specs.RingLaws.{zero-⊕, one-⊗, zero-⊗, ⊗-zero, dist-⊗, ⊕-cancel, neg-unique, neg-zero, ⊕-left-comm, ⊗-left-comm}
 use Rattle.ring.specs.Sum.{alt}
-use Rattle.ring.specs.Alt.{alt-ext, alt-scale, alt-swap, alt-single}
+use Rattle.ring.specs.Alt.{alt-ext, alt-linear, alt-scale, alt-zero, alt-swap, alt-single}
+use Rattle.ring.specs.Matrix.{put, put-same, put-other, put-put, put-self, put-comm, put-columns}
 use Rattle.ring.specs.Det.{skip, minor, det}
 
 -- a column of the minor is a column of the matrix
@@ -18,7 +19,7 @@ skip-lt (suc j) (suc k) zero h = absurd (omega arith)
 skip-lt (suc j) (suc k) (suc n) h = let l : skip j k < suc n = skip-lt j k n (omega arith) in omega arith
 
 module _ (R : Ring) where
-  open Ring R using (C, _⊕_, _⊗_, ⊖_, 𝟘, 𝟙, ⊗-assoc, ⊗-comm)
+  open Ring R using (C, _⊕_, _⊗_, ⊖_, 𝟘, 𝟙, ⊕-assoc, ⊕-comm, ⊕-zero, ⊗-assoc, ⊗-comm, ⊗-dist)
 
   pub det-ext : (n : ℕ) (A B : ℕ → ℕ → C) → ((i k : ℕ) → i < n → k < n → A i k ≡ B i k) → det R n A ≡ det R n B
   unfolding det
@@ -68,3 +69,74 @@ module _ (R : Ring) where
       ∙ ap (λ (x : C). A zero zero ⊗ x ⊕ (⊖ cross m (λ i k. A k i))) (det-transpose (suc m) (λ i k. A (suc i) (suc k)))
       ∙ ap (λ (x : C). A zero zero ⊗ det R (suc m) (λ i k. A (suc i) (suc k)) ⊕ (⊖ x)) (cross-swap m A (det-transpose m))
       ∙ sym (det-cross m A (det-transpose m) (det-transpose (suc m)))
+
+  -- the determinant by the first column
+  pub det-by-column : (n : ℕ) (A : ℕ → ℕ → C)
+      → det R (suc n) A ≡ alt R (suc n) (λ i. A i zero ⊗ det R n (λ a b. A (skip i a) (suc b)))
+  unfolding det
+  det-by-column n A =
+      sym (det-transpose (suc n) A)
+      ∙ alt-ext R (suc n) _ _ (λ i l. ap (λ (x : C). A i zero ⊗ x) (det-transpose n (λ a b. A (skip i a) (suc b))))
+
+  pub det-column : (n r : ℕ) (A : ℕ → ℕ → C) → r ≤ n → ((i : ℕ) → i ≤ n → i ≢ r → A i zero ≡ 𝟘)
+      → det R (suc n) A ≡ sign R r ⊗ (A r zero ⊗ det R n (λ i k. A (skip r i) (suc k)))
+  det-column n r A l h =
+      det-by-column n A
+      ∙ alt-single R (suc n) r (λ i. A i zero ⊗ det R n (λ a b. A (skip i a) (suc b))) (omega arith)
+      (λ i li ne. ap (λ (x : C). x ⊗ det R n (λ a b. A (skip i a) (suc b))) (h i (omega arith) ne)
+      ∙ zero-⊗ R (det R n (λ a b. A (skip i a) (suc b))))
+
+  -- matrices with equal rows have equal determinants
+  pub det-rows : (n : ℕ) (A B : ℕ → ℕ → C) → ((i : ℕ) → i < n → A i ≡ B i) → det R n A ≡ det R n B
+  det-rows n A B h = det-ext n A B (λ i k li lk. ap (λ (r : ℕ → C). r k) (h i li))
+
+  -- a minor of a matrix with a replaced row, where the row is not the first
+  minor-put : (n i j : ℕ) (r : ℕ → C) (A : ℕ → ℕ → C)
+      → det R n (minor R (put (suc i) r A) j) ≡ det R n (put i (λ k. r (skip j k)) (minor R A j))
+  unfolding put
+  minor-put n i j r A = det-ext n _ _ (λ a k la lk. put-columns i r (λ a. A (suc a)) (skip j) a k)
+
+  pub det-linear : (n i : ℕ) (c : C) (r s : ℕ → C) (A : ℕ → ℕ → C) → i < n
+      → det R n (put i (λ k. r k ⊕ c ⊗ s k) A) ≡ det R n (put i r A) ⊕ c ⊗ det R n (put i s A)
+  unfolding det put
+  det-linear zero i c r s A l = absurd (omega arith)
+  det-linear (suc n) zero c r s A l =
+      alt-ext R (suc n) _ _ (λ j lj.
+      dist-⊗ R (r j) (c ⊗ s j) (det R n (minor R A j))
+      ∙ ap (λ (x : C). r j ⊗ det R n (minor R A j) ⊕ x) (⊗-assoc c (s j) (det R n (minor R A j))))
+      ∙ alt-linear R (suc n) c (λ j. r j ⊗ det R n (minor R A j)) (λ j. s j ⊗ det R n (minor R A j))
+  det-linear (suc n) (suc i) c r s A l =
+      alt-ext R (suc n) _ _ (λ j lj.
+      ap (λ (x : C). A zero j ⊗ x)
+      (minor-put n i j (λ k. r k ⊕ c ⊗ s k) A
+      ∙ det-linear n i c (λ k. r (skip j k)) (λ k. s (skip j k)) (minor R A j) (omega arith)
+      ∙ ap₂ (λ (x y : C). x ⊕ c ⊗ y) (sym (minor-put n i j r A)) (sym (minor-put n i j s A)))
+      ∙ ⊗-dist (A zero j) (det R n (minor R (put (suc i) r A) j)) (c ⊗ det R n (minor R (put (suc i) s A) j))
+      ∙ ap (λ (x : C). A zero j ⊗ det R n (minor R (put (suc i) r A) j) ⊕ x)
+      (⊗-left-comm R (A zero j) c (det R n (minor R (put (suc i) s A) j))))
+      ∙ alt-linear R (suc n) c (λ j. A zero j ⊗ det R n (minor R (put (suc i) r A) j)) (λ j. A zero j ⊗ det R n (minor R (put (suc i) s A) j))
+
+  pub det-add : (n i : ℕ) (r s : ℕ → C) (A : ℕ → ℕ → C) → i < n
+      → det R n (put i (λ k. r k ⊕ s k) A) ≡ det R n (put i r A) ⊕ det R n (put i s A)
+  det-add n i r s A l =
+      ap (λ (x : ℕ → C). det R n (put i x A)) (fun-ext (λ k. ap (λ (y : C). r k ⊕ y) (sym (one-⊗ R (s k)))))
+      ∙ det-linear n i 𝟙 r s A l
+      ∙ ap (λ (x : C). det R n (put i r A) ⊕ x) (one-⊗ R (det R n (put i s A)))
+
+  -- a row of zeros
+  put-zero : (n i : ℕ) (A : ℕ → ℕ → C) → i < n → det R n (put i (λ k. 𝟘) A) ≡ 𝟘
+  put-zero n i A l =
+      ⊕-cancel R d 𝟘 d (sym (det-add n i (λ k. 𝟘) (λ k. 𝟘) A l)
+      ∙ ap (λ (x : ℕ → C). det R n (put i x A)) (fun-ext (λ k. ⊕-zero 𝟘))
+      ∙ sym (zero-⊕ R d))
+    where
+      d : C
+      d = det R n (put i (λ k. 𝟘) A)
+
+  pub det-scale : (n i : ℕ) (c : C) (r : ℕ → C) (A : ℕ → ℕ → C) → i < n
+      → det R n (put i (λ k. c ⊗ r k) A) ≡ c ⊗ det R n (put i r A)
+  det-scale n i c r A l =
+      ap (λ (x : ℕ → C). det R n (put i x A)) (fun-ext (λ k. sym (zero-⊕ R (c ⊗ r k))))
+      ∙ det-linear n i c (λ k. 𝟘) r A l
+      ∙ ap (λ (x : C). x ⊕ c ⊗ det R n (put i r A)) (put-zero n i A l)
+      ∙ zero-⊕ R (c ⊗ det R n (put i r A))
