@@ -7,7 +7,7 @@ use Rattle.ring.specs.Ring.{Ring, sign, pow}
 use Rattle.ring.specs.RingLaws.{zero-⊕, one-⊗, zero-⊗, ⊗-zero, dist-⊗, ⊕-cancel, neg-unique, neg-zero, ⊕-left-comm, ⊗-left-comm}
 use Rattle.ring.specs.Sum.{alt}
 use Rattle.ring.specs.Alt.{alt-ext, alt-linear, alt-scale, alt-zero, alt-swap, alt-single}
-use Rattle.ring.specs.Matrix.{put, put-same, put-other, put-put, put-self, put-comm, put-columns}
+use Rattle.ring.specs.Matrix.{put, put-same, put-other, put-is, put-put, put-self, put-comm, put-columns}
 use Rattle.ring.specs.Det.{skip, minor, det}
 
 -- a column of the minor is a column of the matrix
@@ -19,7 +19,7 @@ skip-lt (suc j) (suc k) zero h = absurd (omega arith)
 skip-lt (suc j) (suc k) (suc n) h = let l : skip j k < suc n = skip-lt j k n (omega arith) in omega arith
 
 module _ (R : Ring) where
-  open Ring R using (C, _⊕_, _⊗_, ⊖_, 𝟘, 𝟙, ⊕-assoc, ⊕-comm, ⊕-zero, ⊗-assoc, ⊗-comm, ⊗-dist)
+  open Ring R using (C, _⊕_, _⊗_, ⊖_, 𝟘, 𝟙, ⊕-assoc, ⊕-comm, ⊕-zero, ⊕-neg, ⊗-assoc, ⊗-comm, ⊗-dist)
 
   pub det-ext : (n : ℕ) (A B : ℕ → ℕ → C) → ((i k : ℕ) → i < n → k < n → A i k ≡ B i k) → det R n A ≡ det R n B
   unfolding det
@@ -140,3 +140,51 @@ module _ (R : Ring) where
       ∙ det-linear n i c (λ k. 𝟘) r A l
       ∙ ap (λ (x : C). x ⊕ c ⊗ det R n (put i r A)) (put-zero n i A l)
       ∙ zero-⊕ R (c ⊗ det R n (put i r A))
+
+  -- a matrix that has r as row i and agrees with A elsewhere
+  pub det-put : (n i : ℕ) (r : ℕ → C) (A B : ℕ → ℕ → C) → ((k : ℕ) → k < n → B i k ≡ r k)
+      → ((j k : ℕ) → j < n → k < n → j ≢ i → B j k ≡ A j k) → det R n B ≡ det R n (put i r A)
+  det-put n i r A B at off =
+      det-ext n B (put i r A) (λ a k la lk. put-is i a k r A (B a k) (λ e. ap (λ (j : ℕ). B j k) e ∙ at k lk) (λ ne. off a k la lk ne))
+
+  pub det-zero-row : (n i : ℕ) (A : ℕ → ℕ → C) → i < n → ((k : ℕ) → k < n → A i k ≡ 𝟘) → det R n A ≡ 𝟘
+  det-zero-row n i A l h = det-put n i (λ k. 𝟘) A A h (λ j k lj lk ne. refl) ∙ put-zero n i A l
+
+  -- the first two terms of the expansion by the first column cancel
+  equal-first : (m : ℕ) (A : ℕ → ℕ → C) → ((k : ℕ) → k < suc (suc m) → A zero k ≡ A (suc zero) k)
+      → ((i : ℕ) → i < m → det R (suc m) (λ a b. A (skip (suc (suc i)) a) (suc b)) ≡ 𝟘) → det R (suc (suc m)) A ≡ 𝟘
+  unfolding alt skip
+  equal-first m A h z =
+      det-by-column (suc m) A
+      ∙ ap (λ (x : C). F zero ⊕ (⊖ (F (suc zero) ⊕ (⊖ x)))) (alt-zero R m (λ i. F (suc (suc i))) (λ i l. ap (λ (x : C). A (suc (suc i)) zero ⊗ x) (z i l) ∙ ⊗-zero R (A (suc (suc i)) zero)))
+      ∙ ap (λ (x : C). x ⊕ (⊖ (F (suc zero) ⊕ (⊖ 𝟘)))) same
+      ∙ ap (λ (x : C). F (suc zero) ⊕ (⊖ (F (suc zero) ⊕ x))) (neg-zero R)
+      ∙ ap (λ (x : C). F (suc zero) ⊕ (⊖ x)) (⊕-zero (F (suc zero)))
+      ∙ ⊕-neg (F (suc zero))
+    where
+      F : ℕ → C
+      F i = A i zero ⊗ det R (suc m) (λ a b. A (skip i a) (suc b))
+
+      rows : (a b : ℕ) → b < suc m → A (suc a) (suc b) ≡ A (skip (suc zero) a) (suc b)
+      rows zero b l = sym (h (suc b) (omega arith))
+      rows (suc a) b l = refl
+
+      same : F zero ≡ F (suc zero)
+      same = ap₂ (λ (x y : C). x ⊗ y) (h zero (omega arith)) (det-ext (suc m) _ _ (λ a b la lb. rows a b lb))
+
+  equal-top : (m : ℕ) (A : ℕ → ℕ → C) → ((k : ℕ) → k < suc (suc m) → A zero k ≡ A (suc zero) k) → det R (suc (suc m)) A ≡ 𝟘
+  unfolding skip
+  equal-top zero A h = equal-first zero A h (λ i l. absurd (omega arith))
+  equal-top (suc m) A h =
+      equal-first (suc m) A h (λ i l. equal-top m (λ a b. A (skip (suc (suc i)) a) (suc b)) (λ k lk. h (suc k) (omega arith)))
+
+  -- two equal neighbouring rows
+  equal-next : (n i : ℕ) (A : ℕ → ℕ → C) → suc i < n → ((k : ℕ) → k < n → A i k ≡ A (suc i) k) → det R n A ≡ 𝟘
+  unfolding det
+  equal-next zero i A l h = absurd (omega arith)
+  equal-next (suc zero) i A l h = absurd (omega arith)
+  equal-next (suc (suc m)) zero A l h = equal-top m A h
+  equal-next (suc (suc m)) (suc i) A l h =
+      alt-zero R (suc (suc m)) _ (λ j lj.
+      ap (λ (x : C). A zero j ⊗ x) (equal-next (suc m) i (minor R A j) (omega arith) (λ k lk. h (skip j k) (skip-lt j k (suc m) lk)))
+      ∙ ⊗-zero R (A zero j))

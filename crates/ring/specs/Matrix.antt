@@ -4,6 +4,7 @@
 --   stack n f g     the first n rows of f, then the rows of g
 --   put-same        row i of put i r A is r
 --   put-other       the other rows of put i r A are those of A
+--   put-is          a matrix that has r as row i and agrees with A elsewhere is put i r A, entry by entry
 --   put-put         the later of two replacements of one row counts
 --   put-self        a row replaced by itself
 --   put-comm        replacements of two different rows commute
@@ -38,6 +39,13 @@ module _ {C : Type 0} where
   put-other zero (suc j) r A h = refl
   put-other (suc i) zero r A h = refl
   put-other (suc i) (suc j) r A h = put-other i j r (λ i. A (suc i)) (omega arith)
+
+  pub put-is : (i a k : ℕ) (r : ℕ → C) (A : ℕ → ℕ → C) (x : C) → (a ≡ i → x ≡ r k) → (a ≢ i → x ≡ A a k) → x ≡ put i r A a k
+  unfolding put
+  put-is zero zero k r A x at off = at refl
+  put-is zero (suc a) k r A x at off = off (suc-ne-zero a)
+  put-is (suc i) zero k r A x at off = off (omega arith)
+  put-is (suc i) (suc a) k r A x at off = put-is i a k r (λ i. A (suc i)) x (λ e. at (ap suc e)) (λ ne. off (omega arith))
 
   pub put-put : (i : ℕ) (r s : ℕ → C) (A : ℕ → ℕ → C) (j : ℕ) → put i r (put i s A) j ≡ put i r A j
   unfolding put
