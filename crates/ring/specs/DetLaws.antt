@@ -1,13 +1,25 @@
--- Determinants.
+-- Determinants: expansion by the first column, and the laws that concern one row.
+--
+--   det-ext           the determinant looks at the entries inside the size only
+--   det-transpose     rows and columns may change places
+--   det-by-column     expansion by the first column
+--   det-column        the same where one entry of the column may differ from zero
+--   det-linear        linear in row i: a row plus a multiple of another row
+--   det-add           additive in row i
+--   det-scale         a factor of row i
+--   det-put           replacing row i, entry by entry
+--   det-zero-row      a row of zeros
+--   det-triangular    zeros below the diagonal and one value along it
 use Prim.Native.Nat.{ℕ, zero, suc, _≤_, _<_}
+use native.Mathlib.Nat.{suc-ne-zero}
 use native.Mathlib.Omega.{arith}
 use mathlib.Core.Path.{_≡_, refl, sym, ap, ap₂, fun-ext, _∙_}
 use mathlib.Core.Logic.{_≢_}
 use Rattle.ring.specs.Ring.{Ring, sign, pow}
-use Rattle.ring.specs.RingLaws.{zero-⊕, one-⊗, zero-⊗, ⊗-zero, dist-⊗, ⊕-cancel, neg-unique, neg-zero, ⊕-left-comm, ⊗-left-comm}
+use Rattle.ring.specs.RingLaws.{zero-⊕, one-⊗, zero-⊗, dist-⊗, ⊕-cancel, ⊗-left-comm}
 use Rattle.ring.specs.Sum.{alt}
-use Rattle.ring.specs.Alt.{alt-ext, alt-linear, alt-scale, alt-zero, alt-swap, alt-single}
-use Rattle.ring.specs.Matrix.{put, put-same, put-other, put-is, put-put, put-self, put-comm, put-columns}
+use Rattle.ring.specs.Alt.{alt-ext, alt-linear, alt-scale, alt-swap, alt-single}
+use Rattle.ring.specs.Matrix.{put, put-is, put-columns}
 use Rattle.ring.specs.Det.{skip, minor, det}
 
 -- a column of the minor is a column of the matrix
@@ -19,7 +31,7 @@ skip-lt (suc j) (suc k) zero h = absurd (omega arith)
 skip-lt (suc j) (suc k) (suc n) h = let l : skip j k < suc n = skip-lt j k n (omega arith) in omega arith
 
 module _ (R : Ring) where
-  open Ring R using (C, _⊕_, _⊗_, ⊖_, 𝟘, 𝟙, ⊕-assoc, ⊕-comm, ⊕-zero, ⊕-neg, ⊗-assoc, ⊗-comm, ⊗-dist)
+  open Ring R using (C, _⊕_, _⊗_, ⊖_, 𝟘, 𝟙, ⊕-zero, ⊗-assoc, ⊗-dist)
 
   pub det-ext : (n : ℕ) (A B : ℕ → ℕ → C) → ((i k : ℕ) → i < n → k < n → A i k ≡ B i k) → det R n A ≡ det R n B
   unfolding det
@@ -86,10 +98,6 @@ module _ (R : Ring) where
       (λ i li ne. ap (λ (x : C). x ⊗ det R n (λ a b. A (skip i a) (suc b))) (h i (omega arith) ne)
       ∙ zero-⊗ R (det R n (λ a b. A (skip i a) (suc b))))
 
-  -- matrices with equal rows have equal determinants
-  pub det-rows : (n : ℕ) (A B : ℕ → ℕ → C) → ((i : ℕ) → i < n → A i ≡ B i) → det R n A ≡ det R n B
-  det-rows n A B h = det-ext n A B (λ i k li lk. ap (λ (r : ℕ → C). r k) (h i li))
-
   -- a minor of a matrix with a replaced row, where the row is not the first
   minor-put : (n i j : ℕ) (r : ℕ → C) (A : ℕ → ℕ → C)
       → det R n (minor R (put (suc i) r A) j) ≡ det R n (put i (λ k. r (skip j k)) (minor R A j))
@@ -150,41 +158,12 @@ module _ (R : Ring) where
   pub det-zero-row : (n i : ℕ) (A : ℕ → ℕ → C) → i < n → ((k : ℕ) → k < n → A i k ≡ 𝟘) → det R n A ≡ 𝟘
   det-zero-row n i A l h = det-put n i (λ k. 𝟘) A A h (λ j k lj lk ne. refl) ∙ put-zero n i A l
 
-  -- the first two terms of the expansion by the first column cancel
-  equal-first : (m : ℕ) (A : ℕ → ℕ → C) → ((k : ℕ) → k < suc (suc m) → A zero k ≡ A (suc zero) k)
-      → ((i : ℕ) → i < m → det R (suc m) (λ a b. A (skip (suc (suc i)) a) (suc b)) ≡ 𝟘) → det R (suc (suc m)) A ≡ 𝟘
-  unfolding alt skip
-  equal-first m A h z =
-      det-by-column (suc m) A
-      ∙ ap (λ (x : C). F zero ⊕ (⊖ (F (suc zero) ⊕ (⊖ x)))) (alt-zero R m (λ i. F (suc (suc i))) (λ i l. ap (λ (x : C). A (suc (suc i)) zero ⊗ x) (z i l) ∙ ⊗-zero R (A (suc (suc i)) zero)))
-      ∙ ap (λ (x : C). x ⊕ (⊖ (F (suc zero) ⊕ (⊖ 𝟘)))) same
-      ∙ ap (λ (x : C). F (suc zero) ⊕ (⊖ (F (suc zero) ⊕ x))) (neg-zero R)
-      ∙ ap (λ (x : C). F (suc zero) ⊕ (⊖ x)) (⊕-zero (F (suc zero)))
-      ∙ ⊕-neg (F (suc zero))
-    where
-      F : ℕ → C
-      F i = A i zero ⊗ det R (suc m) (λ a b. A (skip i a) (suc b))
-
-      rows : (a b : ℕ) → b < suc m → A (suc a) (suc b) ≡ A (skip (suc zero) a) (suc b)
-      rows zero b l = sym (h (suc b) (omega arith))
-      rows (suc a) b l = refl
-
-      same : F zero ≡ F (suc zero)
-      same = ap₂ (λ (x y : C). x ⊗ y) (h zero (omega arith)) (det-ext (suc m) _ _ (λ a b la lb. rows a b lb))
-
-  equal-top : (m : ℕ) (A : ℕ → ℕ → C) → ((k : ℕ) → k < suc (suc m) → A zero k ≡ A (suc zero) k) → det R (suc (suc m)) A ≡ 𝟘
-  unfolding skip
-  equal-top zero A h = equal-first zero A h (λ i l. absurd (omega arith))
-  equal-top (suc m) A h =
-      equal-first (suc m) A h (λ i l. equal-top m (λ a b. A (skip (suc (suc i)) a) (suc b)) (λ k lk. h (suc k) (omega arith)))
-
-  -- two equal neighbouring rows
-  equal-next : (n i : ℕ) (A : ℕ → ℕ → C) → suc i < n → ((k : ℕ) → k < n → A i k ≡ A (suc i) k) → det R n A ≡ 𝟘
-  unfolding det
-  equal-next zero i A l h = absurd (omega arith)
-  equal-next (suc zero) i A l h = absurd (omega arith)
-  equal-next (suc (suc m)) zero A l h = equal-top m A h
-  equal-next (suc (suc m)) (suc i) A l h =
-      alt-zero R (suc (suc m)) _ (λ j lj.
-      ap (λ (x : C). A zero j ⊗ x) (equal-next (suc m) i (minor R A j) (omega arith) (λ k lk. h (skip j k) (skip-lt j k (suc m) lk)))
-      ∙ ⊗-zero R (A zero j))
+  pub det-triangular : (n : ℕ) (A : ℕ → ℕ → C) (c : C) → ((i k : ℕ) → i < n → k < i → A i k ≡ 𝟘) → ((i : ℕ) → i < n → A i i ≡ c)
+      → det R n A ≡ pow R c n
+  unfolding det pow sign skip
+  det-triangular zero A c z d = refl
+  det-triangular (suc n) A c z d =
+      det-column n zero A (omega arith) (λ i l ne. z i zero (omega arith) (omega arith))
+      ∙ one-⊗ R (A zero zero ⊗ det R n (λ i k. A (suc i) (suc k)))
+      ∙ ap₂ (λ (x y : C). x ⊗ y) (d zero (omega arith))
+      (det-triangular n (λ i k. A (suc i) (suc k)) c (λ i k li lk. z (suc i) (suc k) (omega arith) (omega arith)) (λ i l. d (suc i) (omega arith)))

@@ -6,3 +6,5 @@ pub mod Alt
 pub mod Matrix
 pub mod Det
 pub mod DetLaws
+pub mod DetSwap
+pub mod Hom
