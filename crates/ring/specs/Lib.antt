@@ -7,4 +7,5 @@ pub mod Matrix
 pub mod Det
 pub mod DetLaws
 pub mod DetSwap
+pub mod DetRows
 pub mod Hom
