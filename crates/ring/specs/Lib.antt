@@ -8,4 +8,5 @@ pub mod Det
 pub mod DetLaws
 pub mod DetSwap
 pub mod DetRows
+pub mod DetMove
 pub mod Hom

@@ -9,9 +9,11 @@
 --   put-self        a row replaced by itself
 --   put-comm        replacements of two different rows commute
 --   put-columns     choosing columns before or after a replacement
+--   stack-low       the first n rows of stack n f g are those of f
+--   stack-high      row n + i of stack n f g is row i of g
 --   stack-columns   choosing columns before or after stacking
-use Prim.Native.Nat.{ℕ, zero, suc}
-use native.Mathlib.Nat.{suc-ne-zero}
+use Prim.Native.Nat.{ℕ, zero, suc, _+_, _<_}
+use native.Mathlib.Nat.{suc-ne-zero, zero-add, suc-add}
 use native.Mathlib.Omega.{arith}
 use mathlib.Core.Path.{_≡_, refl, sym, ap, fun-ext, _∙_}
 use mathlib.Core.Logic.{_≢_}
@@ -85,3 +87,14 @@ module _ {C : Type 0} where
   stack-columns zero f g σ a k = refl
   stack-columns (suc n) f g σ zero k = refl
   stack-columns (suc n) f g σ (suc a) k = stack-columns n (λ i. f (suc i)) g σ a k
+
+  pub stack-low : (n i : ℕ) (f g : ℕ → ℕ → C) → i < n → stack n f g i ≡ f i
+  unfolding stack
+  stack-low zero i f g l = absurd (omega arith)
+  stack-low (suc n) zero f g l = refl
+  stack-low (suc n) (suc i) f g l = stack-low n i (λ i. f (suc i)) g (omega arith)
+
+  pub stack-high : (n i : ℕ) (f g : ℕ → ℕ → C) → stack n f g (n + i) ≡ g i
+  unfolding stack
+  stack-high zero i f g = ap g (zero-add i)
+  stack-high (suc n) i f g = ap (stack (suc n) f g) (suc-add n i) ∙ stack-high n i (λ i. f (suc i)) g
