@@ -8,7 +8,7 @@
 --   alt-zero        terms that are all zero
 --   alt-swap        the two sums of a double sum may be exchanged
 --   alt-single      a sum with one term that may differ from zero
-use Prim.Native.Nat.{ℕ, zero, suc, _≤_, _<_}
+use Prim.Native.Nat.{ℕ, zero, suc, _<_}
 use native.Mathlib.Nat.{suc-ne-zero}
 use native.Mathlib.Omega.{arith}
 use mathlib.Core.Path.{_≡_, refl, sym, ap, _∙_}
@@ -18,7 +18,7 @@ use Rattle.ring.specs.RingLaws.{one-⊗, neg-zero, neg-dist, ⊗-zero, �
 use Rattle.ring.specs.Sum.{alt}
 
 module _ (R : Ring) where
-  open Ring R using (C, _⊕_, _⊗_, ⊖_, 𝟘, 𝟙, ⊕-assoc, ⊕-comm, ⊕-zero, ⊗-dist)
+  open Ring R using (C, _⊕_, _⊗_, ⊖_, 𝟘, ⊕-assoc, ⊕-comm, ⊕-zero, ⊗-dist)
 
   pub alt-ext : (n : ℕ) (f g : ℕ → C) → ((i : ℕ) → i < n → f i ≡ g i) → alt R n f ≡ alt R n g
   unfolding alt

@@ -11,7 +11,6 @@
 --   det-zero-row      a row of zeros
 --   det-triangular    zeros below the diagonal and one value along it
 use Prim.Native.Nat.{ℕ, zero, suc, _≤_, _<_}
-use native.Mathlib.Nat.{suc-ne-zero}
 use native.Mathlib.Omega.{arith}
 use mathlib.Core.Path.{_≡_, refl, sym, ap, ap₂, fun-ext, _∙_}
 use mathlib.Core.Logic.{_≢_}

@@ -7,7 +7,7 @@
 use Prim.Native.Nat.{ℕ, zero, suc, _+_, _*_, _≤_, _<_}
 use native.Mathlib.Nat.{add-zero, add-suc, zero-mul, suc-mul}
 use native.Mathlib.Omega.{arith}
-use mathlib.Core.Path.{_≡_, refl, sym, ap, ap₂, subst, _∙_}
+use mathlib.Core.Path.{_≡_, refl, sym, ap, ap₂, _∙_}
 use Rattle.ring.specs.Ring.{Ring, sign}
 use Rattle.ring.specs.RingLaws.{one-⊗, ⊗-neg, neg-⊗, neg-neg, ⊗-left-comm, sign-add}
 use Rattle.ring.specs.Alt.{alt-ext, alt-scale}
@@ -21,7 +21,7 @@ front r zero = r
 front r (suc i) = skip r i
 
 module _ (R : Ring) where
-  open Ring R using (C, _⊕_, _⊗_, ⊖_, 𝟘, 𝟙, ⊗-assoc, ⊗-comm)
+  open Ring R using (C, _⊗_, ⊖_, ⊗-assoc, ⊗-comm)
 
   pub det-below : (n : ℕ) (c : C) (A B : ℕ → ℕ → C) → ((k : ℕ) → k < suc n → A zero k ≡ B zero k)
       → ((j : ℕ) → j < suc n → det R n (minor R A j) ≡ c ⊗ det R n (minor R B j)) → det R (suc n) A ≡ c ⊗ det R (suc n) B

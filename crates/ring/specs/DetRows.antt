@@ -17,7 +17,7 @@ use Rattle.ring.specs.DetLaws.{det-ext, det-put, det-scale}
 use Rattle.ring.specs.DetSwap.{det-add-multiple}
 
 module _ (R : Ring) where
-  open Ring R using (C, _⊕_, _⊗_, ⊖_, 𝟘, 𝟙, ⊗-assoc)
+  open Ring R using (C, _⊕_, _⊗_, 𝟙, ⊗-assoc)
 
   -- outside the rows s to s + t the matrices agree
   record Outside (N s t : ℕ) (A B : ℕ → ℕ → C) : Type 0 where

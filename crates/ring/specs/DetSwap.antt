@@ -3,7 +3,7 @@
 --   det-equal           two equal rows give zero
 --   det-swap            two rows that change places change the sign
 --   det-add-multiple    a multiple of another row may be added to a row
-use Prim.Native.Nat.{ℕ, zero, suc, _≤_, _<_}
+use Prim.Native.Nat.{ℕ, zero, suc, _<_}
 use native.Mathlib.Nat.{eq-or-lt-of-le, le-of-suc-le-suc}
 use native.Mathlib.Decide.{decLt}
 use native.Mathlib.Omega.{arith}

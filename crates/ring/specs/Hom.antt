@@ -7,7 +7,7 @@
 --   alt-hom         alternating sums to alternating sums,
 --   det-hom         and determinants to determinants
 use Prim.Native.Nat.{ℕ, zero, suc}
-use mathlib.Core.Path.{_≡_, refl, ap, ap₂, _∙_}
+use mathlib.Core.Path.{_≡_, ap, _∙_}
 use Rattle.ring.specs.Ring.{Ring, pow, sign}
 use Rattle.ring.specs.Sum.{sum, alt}
 use Rattle.ring.specs.Alt.{alt-ext}
