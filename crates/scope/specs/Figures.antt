@@ -17,7 +17,7 @@ use Rattle.residue.specs.Inverse.{inverse}
 use Rattle.polynomial.specs.Convolution.{conv, one}
 use Rattle.polynomial.specs.Poly.{poly, plus, minus, nil}
 use Rattle.polynomial.specs.Value.{value}
-use Rattle.sylvester.specs.Stub.{stack}
+use Rattle.ring.specs.Matrix.{stack}
 use Rattle.sylvester.specs.Sylvester.{top, moved, sylvester, resultant}
 use Rattle.euclid.specs.Row.{coef, joined, trim, declared, degree, lead, rowDeterminant}
 use Rattle.euclid.specs.Division.{less, entry, rest, divide, remainder}
@@ -59,6 +59,22 @@ figures =
 
 pub figures-hold : AllHold figures
 unfolding pow sign sum alt det skip prime? residues res val cut modulus inverse conv one plus minus nil value stack top moved sylvester resultant coef joined trim declared degree lead rowDeterminant less entry rest divide remainder monic following sequence turns steps final leads byLast formula bySize rowResultant stepsBySize rowSteps tables term place size some largest occurs degreeA degreeB bound polynomial determinant coefficient tabulate valueAt usable needed room usables enough _gives_otherwise_ outside composite tooHigh misfit over noLead scarce openNumber
-figures-hold =
-    ((refl, refl, refl), ((refl, refl, refl), ((refl, refl, refl), ((refl, refl, refl), ((refl, refl, refl), ((refl, refl, refl),
-    ((refl, refl, refl), ((refl, refl, refl), ((refl, refl), ((refl, refl, refl), tt))))))))))
+figures-hold = (
+  (refl, refl, refl),
+  (
+    (refl, refl, refl),
+    (
+      (refl, refl, refl),
+      (
+        (refl, refl, refl),
+        (
+          (refl, refl, refl),
+          (
+            (refl, refl, refl),
+            ((refl, refl, refl), ((refl, refl, refl), ((refl, refl), ((refl, refl, refl), tt)))),
+          ),
+        ),
+      ),
+    ),
+  ),
+)

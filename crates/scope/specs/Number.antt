@@ -30,7 +30,6 @@ use Rattle.scope.specs.Pair.{Pair, tables, term, size, some}
 use Rattle.scope.specs.Point.{usable, needed, room, enough}
 
 infixr 20 _gives_otherwise_
-
 unfoldable pub _gives_otherwise_ : Bool → ℕ → ℕ → ℕ
 true gives r otherwise s = r
 false gives r otherwise s = s
@@ -82,7 +81,6 @@ zero then s = s
 suc r then s = suc r
 
 infixr 20 _then_
-
 unfoldable pub oneShotNumber : (p m e n f : ℕ) → List ℕ → List ℕ → ℕ → ℕ
 oneShotNumber p m e n f s t entries =
     openNumber p m e n f s t then
