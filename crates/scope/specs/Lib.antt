@@ -3,3 +3,4 @@ pub mod Pair
 pub mod Point
 pub mod Number
 pub mod Figures
+pub mod Evaluation
