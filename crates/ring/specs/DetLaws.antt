@@ -1,5 +1,6 @@
 -- Determinants: expansion by the first column, and the laws that concern one row.
 --
+--   skip-lt           a column of a minor is a column of the matrix
 --   det-ext           the determinant looks at the entries inside the size only
 --   det-transpose     rows and columns may change places
 --   det-by-column     expansion by the first column
@@ -21,7 +22,6 @@ use Rattle.ring.specs.Alt.{alt-ext, alt-linear, alt-scale, alt-swap, alt
 use Rattle.ring.specs.Matrix.{put, put-is, put-columns}
 use Rattle.ring.specs.Det.{skip, minor, det}
 
--- a column of the minor is a column of the matrix
 pub skip-lt : (j k n : ℕ) → k < n → skip j k < suc n
 unfolding skip
 skip-lt zero k n h = omega arith
