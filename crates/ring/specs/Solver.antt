@@ -4,8 +4,14 @@
 --   Expr            expressions: var i, :0, :1, e :+ f, e :* f, :- e
 --   eval e ρ        the value of e, where ρ lists the values of var 0, var 1, ..
 --   Term            a product of variables, in rising order, with its sign
---   norm e          e as a sum of terms, sorted, in which no two terms cancel
---   value ρ p       the value of a sum of terms
+--   norm e          e as a list of terms to be added, sorted, in which no two terms cancel
+--   insert times    products of variables: a variable put into its place; two products multiplied
+--   order           the order of products of variables
+--   vars flip scale of a term: its variables; its negative; its product with another term
+--   add mul each    sums of terms: added; multiplied; changed term by term
+--   join meet       the steps of add: a term put into its place; two terms with the same variables
+--   look ρ i        the value of var i; 0 past the end of the list
+--   product term value    the value of a product of variables, of a term, of a sum of terms
 --   norm-value      an expression and its normal form have one value
 --   solve           expressions with one normal form have one value
 use Prim.Native.Nat.{ℕ, zero, suc, compare, Ordering, Ordering·lt, Ordering·eq, Ordering·gt}
@@ -30,7 +36,6 @@ pub data Term : Type 0 where
   plus : List ℕ → Term
   minus : List ℕ → Term
 
--- a variable put into its place in a product
 abbrev pub insert : ℕ → List ℕ → List ℕ
 insert v [] = v ∷ []
 insert v (u ∷ m) = elim (compare v u) [ Ordering·lt ↦ v ∷ u ∷ m | Ordering·eq ↦ v ∷ u ∷ m | Ordering·gt ↦ u ∷ insert v m ]
@@ -109,7 +114,6 @@ module _ (R : Ring) where
   eval (e :* f) ρ = eval e ρ ⊗ eval f ρ
   eval (:- e) ρ = ⊖ eval e ρ
 
-  -- the value of a product of variables, of a term, of a sum of terms
   pub product : List C → List ℕ → C
   product ρ [] = 𝟙
   product ρ (v ∷ m) = look ρ v ⊗ product ρ m
