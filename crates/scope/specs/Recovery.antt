@@ -36,7 +36,7 @@ module _ (p : ℕ) (two : 2 ≤ p) (prime : Prime p) where
 
   prod-nonzero : (N : ℕ) (f : ℕ → C) → ((i : ℕ) → i < N → f i ≢ 𝟘) → prod (residues p) N f ≢ 𝟘
   unfolding prod
-  prod-nonzero zero f h = one-nonzero
+  prod-nonzero zero f h e = one-nonzero e
   prod-nonzero (suc N) f h e =
       prod-nonzero N (λ i. f (suc i)) (λ i l. h (suc i) (omega arith))
       (domain p two prime (f zero) (prod (residues p) N (λ i. f (suc i))) e (h zero (omega arith)))
