@@ -4,10 +4,14 @@
 --   tried-first     after the trial of 2 comes 3
 --   tried-next      after the trial of d comes d + 2: a divisor d + 1 would make p even
 --   tried-all       p is prime once d * d passes it
+--   tried-room      while d * d has not passed p, there is room below p for 3d
+--   divided         with a divisor found, the answer false is right
 use Prim.Native.Nat.{ℕ, _+_, _*_, _%_, _/_, _≤_, _<_}
-use native.Mathlib.Nat.{le-refl, mul-le-mul, mod-eq-zero-of-dvd, dvd-of-mod-eq-zero, dvd-trans}
+use native.Mathlib.Nat.{le-refl, le-trans, mul-le-mul, mul-le-mul-right, mod-eq-zero-of-dvd, dvd-of-mod-eq-zero, dvd-trans}
 use native.Mathlib.Decide.{decLt, ℕ-discrete}
 use native.Mathlib.Omega.{arith}
+use mathlib.Core.Bool.{true, false, false≢true}
+use mathlib.Core.Logic.{_↔_}
 use mathlib.Core.Path.{_≡_, sym, ap, _∙_}
 use Rattle.residue.specs.Prime.{Prime}
 
@@ -44,3 +48,10 @@ tried-all {p} {d} t past e two small divides = by-size (decLt e d)
     by-size : Dec (e < d) → ⊥
     by-size (yes less) = t .none e two less small divides
     by-size (no more) = let over : d ≤ e = omega arith in omega (arith, mul-le-mul over over)
+
+pub tried-room : {p d : ℕ} → Tried p d → d * d ≤ p → 3 * d ≤ p
+tried-room {p} {d} t small = le-trans (mul-le-mul-right d (t .least)) small
+
+pub divided : {p : ℕ} (d : ℕ) → 2 ≤ d → d * d ≤ p → p % d ≡ 0 → (false ≡ true) ↔ Prime p
+unfolding Prime
+divided d two small divides = (λ e. absurd (false≢true e), λ prime. absurd (prime d two small divides))

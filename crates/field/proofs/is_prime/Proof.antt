@@ -1,57 +1,52 @@
+-- `field::is_prime`: a divisor found is a proof against; with every d tried up to the square root, there is none.
+use Prim.Native.Nat.{_-_, _^_, _<_}
+use native.Mathlib.Omega.{arith}
+use mathlib.Core.Logic.{⊎-elim}
+use mathlib.Core.Path.{refl}
+use borrow.Author.Tests.{eqb-true, eqb-false}
+use Rattle.field.proofs.Numbers.{product-most}
+use Rattle.field.proofs.Trials.{Tried, tried-first, tried-next, tried-all, tried-room, divided}
 use Rattle.field.proofs.is_prime.Statement.{statement}
 use Rattle.field.proofs.is_prime.Tie as tie
-use Rattle.field.proofs.is_prime.Reads as reads
-use Rattle.field.proofs.is_prime.Lts as lts
 
 abbrev Inv-loop : tie.InvT-loop
-Inv-loop p d₀ d = ?
+Inv-loop p d₀ d = Tried p d × (d < 2 ^ 32)
 
 abbrev μ-loop : tie.MeasureT-loop
-μ-loop p d₀ d = ?
+μ-loop p d₀ d = p - d
 
--- src/lib.rt:113:9
 returns : tie.Need-returns Inv-loop μ-loop
-returns c = ?
+returns c = divided 2 (omega arith) (omega arith) (eqb-true _ _ (c .if2 .taken))
 
--- src/lib.rt:116:5
 loop-holds : tie.Need-loop-holds Inv-loop μ-loop
-loop-holds c = ?
+loop-holds c = (⊎-elim (λ w. tried-first (λ _. eqb-false _ _ (w .1 .left))) (λ w. tried-first (λ four. absurd (omega arith))) (c .if1 .came), omega arith)
 
--- src/lib.rt:116:12
 cast-loop : tie.Need-cast-loop Inv-loop μ-loop
-cast-loop c = ?
+cast-loop c = omega arith
 
--- src/lib.rt:116:25
 cast-loop-2 : tie.Need-cast-loop-2 Inv-loop μ-loop
-cast-loop-2 c = ?
+cast-loop-2 c = omega arith
 
--- src/lib.rt:116:11
 mul-loop : tie.Need-mul-loop Inv-loop μ-loop
-mul-loop c = ?
+mul-loop c = omega (arith, product-most {a = c .loop .d} {b = c .loop .d} (omega arith) (omega arith))
 
--- src/lib.rt:117:12
 rem-if3 : tie.Need-rem-if3 Inv-loop μ-loop
-rem-if3 c = ?
+rem-if3 c = omega arith
 
--- src/lib.rt:118:13
 returns-2 : tie.Need-returns-2 Inv-loop μ-loop
-returns-2 c = ?
+returns-2 c = divided (c .before .before .loop .d) (omega arith) (omega arith) (c .if3 .taken)
 
--- src/lib.rt:120:13
 add-d : tie.Need-add-d Inv-loop μ-loop
-add-d c = ?
+add-d c = omega (arith, tried-room (c .before .before .loop .inv .0) (omega arith))
 
--- src/lib.rt:116:5
 loop-less : tie.Need-loop-less Inv-loop μ-loop
-loop-less c = ?
+loop-less c = omega (arith, tried-room (c .before .before .loop .inv .0) (omega arith))
 
--- src/lib.rt:116:5
 loop-again : tie.Need-loop-again Inv-loop μ-loop
-loop-again c = ?
+loop-again c = (tried-next (c .before .before .loop .inv .0) (c .if3 .left), omega (arith, tried-room (c .before .before .loop .inv .0) (omega arith)))
 
--- src/lib.rt:109:1
 returns-3 : tie.Need-returns-3 Inv-loop μ-loop
-returns-3 c = ?
+returns-3 c = (λ _. tried-all (c .before .loop .inv .0) (omega arith), λ _. refl)
 
 pub is-prime-spec : {M : Type 1} → statement M
 is-prime-spec =
