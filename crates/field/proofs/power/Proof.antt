@@ -1,3 +1,10 @@
+-- `field::power`: each turn takes the last binary digit of the exponent that is left.
+use native.Mathlib.Omega.{arith}
+use mathlib.Core.Logic.{⊎-elim}
+use mathlib.Core.Path.{_∙_}
+use Rattle.ring.specs.Ring.{pow}
+use Rattle.residue.specs.Residue.{residues, res}
+use Rattle.field.proofs.Powers.{Raised, raised-first, raised-even, raised-odd, raised-last}
 use Rattle.field.proofs.power.Statement.{statement}
 use Rattle.field.proofs.power.Tie as tie
 use Rattle.field.proofs.power.Reads as reads
@@ -5,34 +12,38 @@ use Rattle.field.proofs.power.Lts as lts
 use Rattle.field.proofs.mul.Reads as mul-reads
 
 abbrev Inv-loop : tie.InvT-loop
-Inv-loop p a n r₀ base₀ left₀ r base left = ?
+Inv-loop p a n r₀ base₀ left₀ r base left = Raised p (pow (residues p) (res p a) n) r base left
 
 abbrev μ-loop : tie.MeasureT-loop
-μ-loop p a n r₀ base₀ left₀ r base left = ?
+μ-loop p a n r₀ base₀ left₀ r base left = left
 
 -- src/lib.rt:67:5
 loop-holds : tie.Need-loop-holds Inv-loop μ-loop
-loop-holds c = ?
+loop-holds c = raised-first (c .args .p) (omega arith) (c .args .a) (c .args .n)
 
 -- src/lib.rt:69:13
 mul-requires : tie.Need-mul-requires Inv-loop μ-loop
-mul-requires c κs = ?
+mul-requires c κs = omega arith
 
 -- src/lib.rt:71:9
 mul-requires-2 : tie.Need-mul-requires-2 Inv-loop μ-loop
-mul-requires-2 c κs = ?
+mul-requires-2 c κs = omega arith
 
 -- src/lib.rt:67:5
 loop-less : tie.Need-loop-less Inv-loop μ-loop
-loop-less c = ?
+loop-less c = omega arith
 
 -- src/lib.rt:67:5
 loop-again : tie.Need-loop-again Inv-loop μ-loop
-loop-again c = ?
+loop-again c =
+    ⊎-elim
+    (λ w. raised-odd (c .before .before .before .before .args .p) (c .before .before .before .loop .inv) (c .mul2 .ensures) (w .2 ∙ w .1 .ensures) (w .0 .taken))
+    (λ w. rw (w .1) (raised-even (c .before .before .before .before .args .p) (c .before .before .before .loop .inv) (c .mul2 .ensures) (omega arith)))
+    (c .before .if1 .came)
 
 -- src/lib.rt:59:1
 returns : tie.Need-returns Inv-loop μ-loop
-returns c = ?
+returns c = (c .before .loop .inv .below, raised-last (c .before .before .args .p) (c .before .loop .inv) (omega arith))
 
 pub power-spec : {M : Type 1} → statement M
 power-spec =
