@@ -2,3 +2,4 @@
 pub mod Numbers
 pub mod Trials
 pub mod Powers
+pub mod Euclid

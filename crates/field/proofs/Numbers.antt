@@ -25,11 +25,13 @@ module _ (p : ℕ) where
     where
       pos : 0 < p
       pos = omega arith
+
       left : res p ((p - b) * q + c) ≡ res p c ⊕ (⊖ (res p (q * b)))
       left =
           res-+ p ((p - b) * q) c
           ∙ ⊕-comm (res p ((p - b) * q)) (res p c)
           ∙ ap (λ (t : C). res p c ⊕ t) (res-* p (p - b) q ∙ ap (λ (t : C). t ⊗ res p q) (res-neg p (le-of-lt less)) ∙ neg-⊗ (residues p) (res p b) (res p q))
           ∙ ap (λ (t : C). res p c ⊕ (⊖ t)) (⊗-comm (res p b) (res p q) ∙ sym (res-* p q b))
+
       right : res p (c + (p - (q * b) % p)) ≡ res p c ⊕ (⊖ (res p (q * b)))
       right = res-sub p c (le-of-lt (mod-lt (q * b) pos)) ∙ ap (λ (t : C). res p c ⊕ (⊖ t)) (res-mod p pos (q * b))

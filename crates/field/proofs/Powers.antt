@@ -61,10 +61,10 @@ module _ (p : ℕ) where
         record {
           below = omega (arith, mod-lt (r * base) pos);
           same =
-            ap (λ (t : C). t ⊗ pow (residues p) (res p squared) (left / 2)) (res-product pos r base f)
-            ∙ ⊗-assoc (res p r) (res p base) (pow (residues p) (res p squared) (left / 2))
-            ∙ ap (λ (t : C). res p r ⊗ t) (ap (λ (t : C). res p base ⊗ t) square ∙ sym (pow-odd (residues p) (res p base) left odd))
-            ∙ h .same
+              ap (λ (t : C). t ⊗ pow (residues p) (res p squared) (left / 2)) (res-product pos r base f)
+              ∙ ⊗-assoc (res p r) (res p base) (pow (residues p) (res p squared) (left / 2))
+              ∙ ap (λ (t : C). res p r ⊗ t) (ap (λ (t : C). res p base ⊗ t) square ∙ sym (pow-odd (residues p) (res p base) left odd))
+              ∙ h .same;
         }
 
   pub raised-last : {x : C} {r base left : ℕ} → Raised x r base left → left ≡ 0 → res p r ≡ x

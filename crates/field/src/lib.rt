@@ -16,11 +16,7 @@ pub fn add(p: u32, a: u32, b: u32) -> u32
     ensures { λ r. ⌜ r ≡ (a + b) % p ⌝ }
 {
     let gap = p - b;
-    if a < gap {
-        a + b
-    } else {
-        a - gap
-    }
+    if a < gap { a + b } else { a - gap }
 }
 
 // a - b modulo p
@@ -29,11 +25,7 @@ pub fn sub(p: u32, a: u32, b: u32) -> u32
     requires { ⌜ b < p ⌝ }
     ensures { λ r. ⌜ r ≡ (a + (p - b)) % p ⌝ }
 {
-    if b <= a {
-        a - b
-    } else {
-        a + (p - b)
-    }
+    if b <= a { a - b } else { a + (p - b) }
 }
 
 // a * b modulo p, for any a and b
@@ -98,11 +90,7 @@ pub fn inverse(p: u32, a: u32) -> u32
         t1 = t2;
         minus = !minus;
     }
-    if minus {
-        p - t1
-    } else {
-        t1
-    }
+    if minus { p - t1 } else { t1 }
 }
 
 // Whether no d with 2 <= d and d * d <= p divides p, by trial of 2 and of the odd d

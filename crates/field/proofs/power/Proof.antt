@@ -7,9 +7,6 @@ use Rattle.residue.specs.Residue.{residues, res}
 use Rattle.field.proofs.Powers.{Raised, raised-first, raised-even, raised-odd, raised-last}
 use Rattle.field.proofs.power.Statement.{statement}
 use Rattle.field.proofs.power.Tie as tie
-use Rattle.field.proofs.power.Reads as reads
-use Rattle.field.proofs.power.Lts as lts
-use Rattle.field.proofs.mul.Reads as mul-reads
 
 abbrev Inv-loop : tie.InvT-loop
 Inv-loop p a n r₀ base₀ left₀ r base left = Raised p (pow (residues p) (res p a) n) r base left
@@ -17,23 +14,18 @@ Inv-loop p a n r₀ base₀ left₀ r base left = Raised p (pow (residues p) (re
 abbrev μ-loop : tie.MeasureT-loop
 μ-loop p a n r₀ base₀ left₀ r base left = left
 
--- src/lib.rt:67:5
 loop-holds : tie.Need-loop-holds Inv-loop μ-loop
 loop-holds c = raised-first (c .args .p) (omega arith) (c .args .a) (c .args .n)
 
--- src/lib.rt:69:13
 mul-requires : tie.Need-mul-requires Inv-loop μ-loop
 mul-requires c κs = omega arith
 
--- src/lib.rt:71:9
 mul-requires-2 : tie.Need-mul-requires-2 Inv-loop μ-loop
 mul-requires-2 c κs = omega arith
 
--- src/lib.rt:67:5
 loop-less : tie.Need-loop-less Inv-loop μ-loop
 loop-less c = omega arith
 
--- src/lib.rt:67:5
 loop-again : tie.Need-loop-again Inv-loop μ-loop
 loop-again c =
     ⊎-elim
@@ -41,7 +33,6 @@ loop-again c =
     (λ w. rw (w .1) (raised-even (c .before .before .before .before .args .p) (c .before .before .before .loop .inv) (c .mul2 .ensures) (omega arith)))
     (c .before .if1 .came)
 
--- src/lib.rt:59:1
 returns : tie.Need-returns Inv-loop μ-loop
 returns c = (c .before .loop .inv .below, raised-last (c .before .before .args .p) (c .before .loop .inv) (omega arith))
 
