@@ -4,7 +4,7 @@
 --   product-most    two numbers of 32 bits have a product of at most (2^32 - 1)^2
 --   minus-product   (p - b) * q + c is c - q * b modulo p
 use Prim.Native.Nat.{ℕ, _+_, _*_, _-_, _%_, _^_, _≤_, _<_}
-use native.Mathlib.Nat.{mod-eq-of-lt, mod-eq-sub-mod, mod-lt, mul-le-mul, mul-comm, le-of-lt}
+use native.Mathlib.Nat.{mod-eq-of-lt, mod-eq-sub-mod, mod-lt, mul-le-mul, le-of-lt}
 use native.Mathlib.Omega.{arith}
 use mathlib.Core.Path.{_≡_, sym, ap, _∙_}
 use Rattle.ring.specs.Ring.{Ring}

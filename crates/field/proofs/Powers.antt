@@ -7,10 +7,10 @@
 --   raised-even           b^k is (b*b)^(k/2) for an even k
 --   raised-odd            r * b^k is (r*b) * (b*b)^(k/2) for an odd k
 --   raised-last           with no factor left, r is the power
-use Prim.Native.Nat.{ℕ, suc, _+_, _*_, _%_, _/_, _≤_, _<_}
+use Prim.Native.Nat.{ℕ, suc, _*_, _%_, _/_, _≤_, _<_}
 use native.Mathlib.Nat.{mod-lt}
 use native.Mathlib.Omega.{arith}
-use mathlib.Core.Path.{_≡_, refl, sym, ap, _∙_}
+use mathlib.Core.Path.{_≡_, sym, ap, _∙_}
 use Rattle.ring.specs.Ring.{Ring, pow}
 use Rattle.ring.specs.RingLaws.{pow-mul, one-⊗}
 use Rattle.residue.specs.Residue.{residues, res, res-*, res-one, res-mod}

@@ -1,9 +1,9 @@
 -- `field::inverse`: each turn goes on to the next pair of remainders; a prime p leaves no remainder 0 before 1.
-use Prim.Native.Nat.{_+_, _*_, _-_, _/_, _≤_, _<_}
-use native.Mathlib.Nat.{div-mul-le-self, add-sub-of-le, mod-lt, mod-eq-sub-div-mul}
+use Prim.Native.Nat.{_+_, _*_, _-_, _/_}
+use native.Mathlib.Nat.{div-mul-le-self}
 use native.Mathlib.Omega.{arith}
-use mathlib.Core.Bool.{Bool, not}
-use mathlib.Core.Path.{subst}
+use mathlib.Core.Bool.{not}
+use mathlib.Core.Path.{}
 use Rattle.field.proofs.Euclid.{Chain, chain-first, chain-bounds, chain-next, chain-plus, chain-minus}
 use Rattle.field.proofs.inverse.Statement.{statement}
 use Rattle.field.proofs.inverse.Tie as tie
