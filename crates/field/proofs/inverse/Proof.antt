@@ -16,7 +16,7 @@ abbrev μ-loop : tie.MeasureT-loop
 
 -- the pair after one turn
 next : (c : tie.In-loop Inv-loop μ-loop) → Chain (c .before .before .args .p) (c .before .before .args .a) (not (c .before .loop .minus)) (c .before .loop .r1) (c .before .loop .r0 - c .before .loop .r0 / c .before .loop .r1 * c .before .loop .r1) (c .before .loop .t1) (c .before .loop .r0 / c .before .loop .r1 * c .before .loop .t1 + c .before .loop .t0)
-next c = chain-next _ _ (c .before .loop .inv) (c .before .before .pre .1 .0) (omega arith)
+next c = chain-next _ _ (c .before .loop .inv) (c .before .before .pre .0) (omega arith)
 
 loop-holds : tie.Need-loop-holds Inv-loop μ-loop
 loop-holds c = chain-first (c .args .p) (c .args .a) (omega arith) (omega arith)
