@@ -2,5 +2,12 @@
 pub mod Ring
 pub mod RingLaws
 pub mod Sum
-pub mod Det
 pub mod SumLaws
+pub mod Alt
+pub mod Matrix
+pub mod Det
+pub mod DetLaws
+pub mod DetSwap
+pub mod DetRows
+pub mod DetMove
+pub mod Hom

@@ -1,4 +1,4 @@
 -- Sylvester's matrix and the laws of its determinant.
-pub mod Stub
 pub mod Sylvester
 pub mod Shift
+pub mod Laws

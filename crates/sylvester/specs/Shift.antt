@@ -1,4 +1,4 @@
--- How `top`, `moved` and `stack` read at a place.
+-- How `top` and `moved` read at a place.
 --
 --   top-at, top-out          the entry k of top m a is a (m - k), or 𝟘 past m
 --   moved-at, moved-out      the entry i + k of moved i r is r k, and 𝟘 before i
@@ -11,20 +11,7 @@ use native.Mathlib.Decide.{decLt}
 use mathlib.Core.Path.{_≡_, refl, sym, ap, _∙_}
 use Rattle.ring.specs.Ring.{Ring}
 use Rattle.ring.specs.RingLaws.{⊗-zero, zero-⊕, zero-⊗}
-use Rattle.sylvester.specs.Stub.{stack}
 use Rattle.sylvester.specs.Sylvester.{top, moved}
-
--- the rows before n of a stack are the first's, those after are the second's
-pub stack-first : {C : Type 0} (n : ℕ) (f g : ℕ → ℕ → C) (i k : ℕ) → i < n → stack n f g i k ≡ f i k
-unfolding stack
-stack-first zero f g i k h = absurd (omega arith)
-stack-first (suc n) f g zero k h = refl
-stack-first (suc n) f g (suc i) k h = stack-first n (λ i. f (suc i)) g i k (omega arith)
-
-pub stack-second : {C : Type 0} (n : ℕ) (f g : ℕ → ℕ → C) (i k : ℕ) → stack n f g (n + i) k ≡ g i k
-unfolding stack
-stack-second zero f g i k = rw zero-add refl
-stack-second (suc n) f g i k = rw suc-add (stack-second n (λ i. f (suc i)) g i k)
 
 module _ (R : Ring) where
   open Ring R using (C, _⊕_, _⊗_, ⊖_, 𝟘, 𝟙, ⊕-zero)

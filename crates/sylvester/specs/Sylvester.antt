@@ -8,7 +8,7 @@
 use Prim.Native.Nat.{ℕ, zero, suc, _+_}
 use Rattle.ring.specs.Ring.{Ring}
 use Rattle.ring.specs.Det.{det}
-use Rattle.sylvester.specs.Stub.{stack}
+use Rattle.ring.specs.Matrix.{stack}
 
 module _ (R : Ring) where
   open Ring R using (C, 𝟘)

@@ -1,0 +1,5 @@
+-- What the kernel computes, and which number each call answers.
+pub mod Pair
+pub mod Point
+pub mod Number
+pub mod Figures
