@@ -5,3 +5,6 @@ pub mod Division
 pub mod DivisionLaws
 pub mod DivisionUnique
 pub mod Sequence
+pub mod MonicLaws
+pub mod SequenceLaws
+pub mod StepsLaws

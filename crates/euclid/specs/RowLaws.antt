@@ -68,6 +68,9 @@ trim-getD (x ∷ r) (suc j) = joined-getD x (trim r) (suc j) ∙ trim-getD r j
 pub trim-coef : (p : ℕ) (r : List ℕ) (j : ℕ) → coef p (trim r) j ≡ coef p r j
 trim-coef p r j = coef-same p (trim r) r j j (trim-getD r j)
 
+pub trim-below : (p : ℕ) (r : List ℕ) → Below p r → Below p (trim r)
+trim-below p r h j = rw (trim-getD r j) (h j)
+
 joined-length : (x : ℕ) (r : List ℕ) → length (joined x r) ≤ suc (length r)
 unfolding joined
 joined-length zero [] = omega arith
@@ -102,6 +105,13 @@ pub declared-length : (r : List ℕ) → 0 < length r → suc (declared r) ≡ l
 unfolding declared
 declared-length [] h = absurd (omega arith)
 declared-length (x ∷ r) h = refl
+
+pub declared-same : (r s : List ℕ) → length r ≡ length s → declared r ≡ declared s
+unfolding declared
+declared-same [] [] e = refl
+declared-same [] (y ∷ s) e = absurd (omega arith)
+declared-same (x ∷ r) [] e = absurd (omega arith)
+declared-same (x ∷ r) (y ∷ s) e = omega arith
 
 pub declared-most : (r : List ℕ) → declared r ≤ length r
 unfolding declared
