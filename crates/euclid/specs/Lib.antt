@@ -6,5 +6,6 @@ pub mod DivisionLaws
 pub mod DivisionUnique
 pub mod Sequence
 pub mod MonicLaws
+pub mod FollowingLaws
 pub mod SequenceLaws
 pub mod StepsLaws

@@ -6,23 +6,21 @@
 --   monic-last, monic-lead         its last entry is 1
 --   monic-ended                    so it is ended
 --   monic-divisor                  and divides modulo p
---   next-row                       the remainder by it, trimmed, is empty or ended, and shorter than the row
-use Prim.Native.Nat.{ℕ, zero, suc, _*_, _%_, _<_, _≤_, min}
+use Prim.Native.Nat.{ℕ, _*_, _%_, _<_, _≤_}
 use native.Mathlib.Nat.{mod-lt, mod-eq-of-lt, zero-mod, zero-mul}
 use native.Mathlib.Omega.{arith}
-use mathlib.Core.List.{List, [], _∷_}
-use mathlib.Core.Path.{_≡_, refl, sym, ap, _∙_, subst}
-use mathlib.Core.Logic.{_≢_, _⊎_, inl, inr}
+use mathlib.Core.List.{List}
+use mathlib.Core.Path.{_≡_, sym, ap, _∙_}
+use mathlib.Core.Logic.{_≢_}
 use lib.ListN.{length, getD, length-map, List·getD-map}
 use Rattle.ring.specs.Ring.{Ring}
 use Rattle.ring.specs.RingLaws.{⊗-left-comm}
 use Rattle.residue.specs.Prime.{Prime}
 use Rattle.residue.specs.Residue.{residues, res, res-mod, res-*, res-one}
 use Rattle.residue.specs.Inverse.{inverse, inverse-right}
-use Rattle.euclid.specs.Row.{coef, trim, declared, lead}
-use Rattle.euclid.specs.RowLaws.{Below, Ended, ended-lead, declared-same, trim-ended, trim-length, trim-below}
-use Rattle.euclid.specs.Division.{remainder}
-use Rattle.euclid.specs.DivisionLaws.{res-inverse, remainder-below, remainder-length}
+use Rattle.euclid.specs.Row.{coef, declared, lead}
+use Rattle.euclid.specs.RowLaws.{Below, Ended, ended-lead, declared-same}
+use Rattle.euclid.specs.DivisionLaws.{res-inverse}
 use Rattle.euclid.specs.Sequence.{monic}
 
 module _ (p : ℕ) (r : List ℕ) where
@@ -79,16 +77,3 @@ module _ (p : ℕ) (two : 2 ≤ p) (prime : Prime p) (r : List ℕ) (ended : End
 
   pub monic-divisor : getD (monic p r) (declared (monic p r)) 0 % p ≢ 0
   monic-divisor e = omega (arith, mod-eq-of-lt two, ap (λ (x : ℕ). x % p) monic-last)
-
-  pub next-row : (before : List ℕ) → Below p before
-      → (trim (remainder p before (monic p r)) ≡ [])
-      ⊎ (Ended (trim (remainder p before (monic p r))) × Below p (trim (remainder p before (monic p r))) × (length (trim (remainder p before (monic p r))) ≤ declared r))
-  next-row before residue = by-end (trim-ended rem)
-    where
-      rem : List ℕ
-      rem = remainder p before (monic p r)
-
-      by-end : (trim rem ≡ []) ⊎ Ended (trim rem) → (trim rem ≡ []) ⊎ (Ended (trim rem) × Below p (trim rem) × (length (trim rem) ≤ declared r))
-      by-end (inl e) = inl e
-      by-end (inr h) =
-          inr (h, trim-below p rem (remainder-below p before (monic p r) (omega arith) residue), omega (arith, trim-length rem, remainder-length p before (monic p r), monic-declared p r))

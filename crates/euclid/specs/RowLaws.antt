@@ -4,13 +4,18 @@
 --   Ended r               the last entry is not 0 (so the row is not empty)
 --   coef-out              past its end a row's coefficients are 𝟘
 --   row-path              rows of one length are equal where their coefficients are
---   trim-coef             trimming keeps every entry
+--   trim-coef             trimming keeps every coefficient; trim-getD: every entry
+--   trim-length           a trimmed row is no longer; trim-below: its entries are residues where they were
 --   trim-ended            a trimmed row is empty or ended
 --   ended-trim            an ended row is trimmed already
-use Prim.Native.Nat.{ℕ, zero, suc, pred, _+_, _<_, _≤_}
+--   declared-length       the length of a row that is not empty is one more than its declared degree
+--   declared-same         rows of one length have one declared degree
+--   declared-most, declared-least   the declared degree against the length of any row
+--   ended-degree, ended-lead        true degree and lead of an ended row
+use Prim.Native.Nat.{ℕ, zero, suc, _<_, _≤_}
 use native.Mathlib.Omega.{arith}
 use mathlib.Core.List.{List, [], _∷_}
-use mathlib.Core.Path.{_≡_, refl, sym, ap, _∙_, subst}
+use mathlib.Core.Path.{_≡_, refl, sym, ap, _∙_}
 use mathlib.Core.Logic.{_≢_, _⊎_, inl, inr}
 use lib.ListN.{length, getD, List·getD-eq-default}
 use lib.Seq.{ext-getD}

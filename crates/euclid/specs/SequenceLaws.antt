@@ -1,41 +1,45 @@
 -- Why the formula of the monic remainder sequence is Sylvester's determinant.
 --
 --   formula-head          of the first row the formula sees only the degree
+--   formula-two           the formula of two rows
 --   formula-step          the formula from the one that begins a row later
 --   determinant-monic     the divisor made monic
---   determinant-next      one division
---   formula-right         the formula of a sequence, by induction on its length
+--   determinant-zero      a division with no remainder
+--   determinant-next      a division with one
+--   formula-last, formula-more   the formula of a sequence that ends after b, and of one that goes on
+--   formula-right         the formula of every sequence
 --   rowResultant-right    the row resultant is the determinant of Sylvester's matrix
-use Prim.Native.Nat.{ℕ, zero, suc, _+_, _-_, _*_, _<_, _≤_}
+use Prim.Native.Nat.{ℕ, zero, suc, _+_, _*_, _<_, _≤_}
 use native.Mathlib.Omega.{arith}
 use mathlib.Core.Bool.{Bool, true, false}
 use mathlib.Core.List.{List, [], _∷_, map}
-use mathlib.Core.Path.{_≡_, refl, sym, ap, _∙_, subst}
-use mathlib.Core.Logic.{_≢_, _⊎_, inl, inr}
+use mathlib.Core.Path.{_≡_, refl, sym, ap, _∙_}
 use lib.ListN.{length, getD}
 use lib.Dec.{ltb}
-use borrow.Author.Tests.{ltb-true, ltb-false}
 use Rattle.ring.specs.Ring.{Ring, pow, sign}
 use Rattle.ring.specs.RingLaws.{one-⊗, ⊗-zero, ⊗-left-comm, sign-add}
-use Rattle.ring.specs.Sum.{sum}
 use Rattle.residue.specs.Prime.{Prime}
-use Rattle.residue.specs.Residue.{residues, res, res-one}
-use Rattle.sylvester.specs.Sylvester.{resultant, moved}
-use Rattle.sylvester.specs.Laws.{resultant-ext, resultant-const-right, resultant-swap, resultant-scale-right, resultant-division, resultant-zero-left, resultant-monic-step}
-use Rattle.euclid.specs.Row.{coef, trim, declared, degree, lead, rowDeterminant}
+use Rattle.residue.specs.Residue.{residues, res}
+use Rattle.sylvester.specs.Sylvester.{resultant}
+use Rattle.sylvester.specs.Laws.{resultant-ext, resultant-const-right, resultant-swap, resultant-scale-right}
+use Rattle.sylvester.specs.Laws.{resultant-division, resultant-zero-left, resultant-monic-step}
+use Rattle.euclid.specs.Row.{coef, declared, degree, lead, rowDeterminant}
 use Rattle.euclid.specs.RowLaws.{Below, Ended, coef-out, trim-coef, declared-length, declared-least, ended-degree, ended-lead}
 use Rattle.euclid.specs.Division.{remainder, quotient, IsDivision}
-use Rattle.euclid.specs.DivisionLaws.{division-right, remainder-length}
-use Rattle.euclid.specs.MonicLaws.{monic-length, monic-declared, monic-below, monic-coef, monic-lead, monic-ended, monic-divisor, next-row}
+use Rattle.euclid.specs.DivisionLaws.{division-right}
 use Rattle.euclid.specs.Sequence.{monic, following, sequence, turns, final, leads, byLast, formula, bySize, rowResultant}
+use Rattle.euclid.specs.MonicLaws.{monic-declared, monic-coef, monic-lead, monic-ended, monic-divisor}
+use Rattle.euclid.specs.FollowingLaws.{Neighbours, shorter-neighbours, longer-neighbours, next, following-induction}
 
 module _ (p : ℕ) where
-  open Ring (residues p) using (C, _⊗_, 𝟘, 𝟙, ⊗-assoc, ⊗-comm, ⊗-one)
+  open Ring (residues p) using (C, _⊗_, ⊗-assoc, ⊗-one)
 
   pub formula-head : (a a′ b : List ℕ) (rs : List (List ℕ)) → degree a ≡ degree a′ → formula p (a ∷ b ∷ rs) ≡ formula p (a′ ∷ b ∷ rs)
   unfolding formula final leads
   formula-head a a′ b rs e =
-      ap (λ (n : ℕ). byLast p (final (degree b ∷ map degree rs)) (sign (residues p) (turns (n ∷ degree b ∷ map degree rs)) ⊗ (pow (residues p) (res p (lead b)) n ⊗ leads p (b ∷ rs)))) e
+      ap (λ (n : ℕ).
+      byLast p (final (degree b ∷ map degree rs))
+      (sign (residues p) (turns (n ∷ degree b ∷ map degree rs)) ⊗ (pow (residues p) (res p (lead b)) n ⊗ leads p (b ∷ rs)))) e
 
   byLast-⊗ : (n : ℕ) (x y : C) → byLast p n (x ⊗ y) ≡ x ⊗ byLast p n y
   unfolding byLast
@@ -74,137 +78,98 @@ module _ (p : ℕ) where
   formula-two a b =
       ap (byLast p (degree b)) (one-⊗ (residues p) _ ∙ ⊗-one (pow (residues p) (res p (lead b)) (degree a)))
 
--- The divisor is followed by itself, and then by nothing where the remainder is empty.
-pub following-none : (p k : ℕ) (before : List ℕ) → following p k before [] ≡ []
-unfolding following
-following-none p zero before = refl
-following-none p (suc k) before = refl
-
-following-some : (p k : ℕ) (before r : List ℕ) → 0 < length r → length r ≤ k → (rs : List (List ℕ)) × (following p k before r ≡ r ∷ rs)
-unfolding following
-following-some p zero before r some fuel = absurd (omega arith)
-following-some p (suc k) before [] some fuel = absurd (omega arith)
-following-some p (suc k) before (x ∷ r) some fuel = (_, refl)
-
 module _ (p : ℕ) (two : 2 ≤ p) (prime : Prime p) where
-  open Ring (residues p) using (C, _⊕_, _⊗_, 𝟘, 𝟙)
+  open Ring (residues p) using (C, _⊗_, 𝟘)
 
-  -- One division: of `before` by r made monic.
-  module _ (before r : List ℕ) (endedA : Ended before) (endedB : Ended r) (belowB : Below p r) (order : declared r ≤ declared before) where
+  -- One division: of a by d, which is b made monic, with the remainder t.
+  module _ (a b : List ℕ) (n : Neighbours p a b) where
     abbrev d : List ℕ
-    d = monic p r
+    d = monic p b
 
     abbrev t : List ℕ
-    t = trim (remainder p before d)
+    t = next p a b
 
-    determinant-monic : rowDeterminant p before r ≡ pow (residues p) (res p (lead r)) (declared before) ⊗ rowDeterminant p before d
-    unfolding rowDeterminant
+    abbrev r : List ℕ
+    r = remainder p a d
+
+    abbrev q : List ℕ
+    q = quotient p a d
+
+    -- lead(b)^m times
+    scaled : C → C
+    scaled x = pow (residues p) (res p (lead b)) (declared a) ⊗ x
+
+    determinant-monic : rowDeterminant p a b ≡ scaled (rowDeterminant p a d)
+    unfolding rowDeterminant scaled
     determinant-monic =
-        resultant-ext (residues p) (declared before) (declared r) (coef p before) (coef p before) (coef p r) (λ j. c ⊗ coef p d j)
-        (λ j _. refl) (λ j _. monic-coef p two prime r endedB belowB j)
-        ∙ resultant-scale-right (residues p) (declared before) (declared r) c (coef p before) (coef p d)
-        ∙ ap (λ (n : ℕ). pow (residues p) c (declared before) ⊗ resultant (residues p) (declared before) n (coef p before) (coef p d)) (sym (monic-declared p r))
-      where
-        c : C
-        c = res p (lead r)
+        resultant-ext (residues p) (declared a) (declared b) (coef p a) (coef p a) (coef p b) (λ j. res p (lead b) ⊗ coef p d j)
+        (λ j _. refl) (λ j _. monic-coef p two prime b (n .second-ended) (n .second-below) j)
+        ∙ resultant-scale-right (residues p) (declared a) (declared b) (res p (lead b)) (coef p a) (coef p d)
+        ∙ ap (λ (k : ℕ). scaled (resultant (residues p) (declared a) k (coef p a) (coef p d))) (sym (monic-declared p b))
 
-    division : IsDivision p before d (quotient p before d) (remainder p before d)
-    division = division-right p before d two prime (monic-divisor p two prime r endedB belowB)
+    division : IsDivision p a d q r
+    division = division-right p a d two prime (monic-divisor p two prime b (n .second-ended) (n .second-below))
 
-    fits : length (quotient p before d) + declared d ≤ suc (declared before)
-    fits = omega (arith, division .quotient-length, declared-length before (endedA .0), monic-declared p r)
+    fits : length q + declared d ≤ suc (declared a)
+    fits = omega (arith, division .quotient-length, declared-length a (n .first-ended .0), monic-declared p b, n .order)
 
     high : (j : ℕ) → declared d < j → coef p d j ≡ 𝟘
     high j h = coef-out p d j (omega (arith, declared-least d))
 
-    determinant-zero : t ≡ [] → 0 < declared r → rowDeterminant p before r ≡ 𝟘
+    determinant-zero : t ≡ [] → 0 < declared b → rowDeterminant p a d ≡ 𝟘
     unfolding rowDeterminant
     determinant-zero e some =
-        determinant-monic
-        ∙ ap (λ (z : C). pow (residues p) (res p (lead r)) (declared before) ⊗ z)
-        (resultant-division (residues p) (declared before) (declared d) (length (quotient p before d)) (coef p (quotient p before d)) (coef p before) (coef p d)
-        (coef p (remainder p before d)) fits high (λ j _. division .equation j)
-        ∙ resultant-zero-left (residues p) (declared before) (declared d) (coef p (remainder p before d)) (coef p d) (omega (arith, monic-declared p r)) (λ j _. gone j))
-        ∙ ⊗-zero (residues p) _
+        resultant-division (residues p) (declared a) (declared d) (length q) (coef p q) (coef p a) (coef p d) (coef p r) fits high (λ j _. division .equation j)
+        ∙ resultant-zero-left (residues p) (declared a) (declared d) (coef p r) (coef p d) (omega (arith, monic-declared p b)) (λ j _. gone j)
       where
-        gone : (j : ℕ) → coef p (remainder p before d) j ≡ 𝟘
-        gone j = sym (trim-coef p (remainder p before d) j) ∙ ap (λ (l : List ℕ). coef p l j) e ∙ coef-out p [] j (omega arith)
+        gone : (j : ℕ) → coef p r j ≡ 𝟘
+        gone j = sym (trim-coef p r j) ∙ ap (λ (l : List ℕ). coef p l j) e ∙ coef-out p [] j (omega arith)
 
-    determinant-next : Ended t → length t ≤ declared r
-        → rowDeterminant p before d ≡ sign (residues p) (declared before * declared d) ⊗ rowDeterminant p d t
+    determinant-next : declared t < declared b → rowDeterminant p a d ≡ sign (residues p) (declared a * declared d) ⊗ rowDeterminant p d t
     unfolding rowDeterminant
-    determinant-next some short =
-        resultant-monic-step (residues p) (declared before) (declared d) (declared t) (length (quotient p before d)) (coef p (quotient p before d)) (coef p before)
-        (coef p d) (coef p (remainder p before d)) fits (omega (arith, declared-length t (some .0))) (monic-lead p two prime r endedB belowB) high small (λ j _. division .equation j)
-        ∙ ap (λ (z : C). sign (residues p) (declared before * declared d) ⊗ z)
-        (resultant-ext (residues p) (declared d) (declared t) (coef p d) (coef p d) (coef p (remainder p before d)) (coef p t) (λ j _. refl)
-        (λ j _. sym (trim-coef p (remainder p before d) j)))
+    determinant-next less =
+        resultant-monic-step (residues p) (declared a) (declared d) (declared t) (length q) (coef p q) (coef p a) (coef p d) (coef p r) fits
+        (omega (arith, n .order)) (monic-lead p two prime b (n .second-ended) (n .second-below)) high small (λ j _. division .equation j)
+        ∙ ap (λ (z : C). sign (residues p) (declared a * declared d) ⊗ z)
+        (resultant-ext (residues p) (declared d) (declared t) (coef p d) (coef p d) (coef p r) (coef p t) (λ j _. refl) (λ j _. sym (trim-coef p r j)))
       where
-        small : (j : ℕ) → declared t < j → coef p (remainder p before d) j ≡ 𝟘
-        small j h = sym (trim-coef p (remainder p before d) j) ∙ coef-out p t j (omega (arith, declared-least t))
+        small : (j : ℕ) → declared t < j → coef p r j ≡ 𝟘
+        small j h = sym (trim-coef p r j) ∙ coef-out p t j (omega (arith, declared-least t))
 
-    -- the sequence ends with r
-    formula-end : t ≡ [] → formula p (before ∷ r ∷ []) ≡ rowDeterminant p before r
-    unfolding byLast rowDeterminant coef
-    formula-end e =
-        formula-two p before r
-        ∙ ap (λ (n : ℕ). byLast p n (pow (residues p) (res p (lead r)) (degree before))) (ended-degree r endedB)
-        ∙ ap (λ (n : ℕ). byLast p (declared r) (pow (residues p) (res p (lead r)) n)) (ended-degree before endedA)
-        ∙ by-degree (declared r) refl
+    formula-last : t ≡ [] → formula p (a ∷ b ∷ []) ≡ rowDeterminant p a b
+    unfolding byLast rowDeterminant coef scaled
+    formula-last e =
+        formula-two p a b
+        ∙ ap (λ (k : ℕ). byLast p k (pow (residues p) (res p (lead b)) (degree a))) (ended-degree b (n .second-ended))
+        ∙ ap (λ (k : ℕ). byLast p (declared b) (pow (residues p) (res p (lead b)) k)) (ended-degree a (n .first-ended))
+        ∙ by-degree (declared b) refl
       where
-        by-degree : (n : ℕ) → declared r ≡ n → byLast p n (pow (residues p) (res p (lead r)) (declared before)) ≡ rowDeterminant p before r
+        by-degree : (k : ℕ) → declared b ≡ k → byLast p k (pow (residues p) (res p (lead b)) (declared a)) ≡ rowDeterminant p a b
         by-degree zero z =
-            sym (ap (λ (n : ℕ). resultant (residues p) (declared before) n (coef p before) (coef p r)) z
-            ∙ resultant-const-right (residues p) (declared before) (coef p before) (coef p r)
-            ∙ ap (λ (x : ℕ). pow (residues p) (res p x) (declared before)) (ap (λ (j : ℕ). getD r j 0) (sym z) ∙ sym (ended-lead r endedB)))
-        by-degree (suc n) z = sym (determinant-zero e (omega arith))
+            sym (ap (λ (k : ℕ). resultant (residues p) (declared a) k (coef p a) (coef p b)) z
+            ∙ resultant-const-right (residues p) (declared a) (coef p a) (coef p b)
+            ∙ ap (λ (x : ℕ). pow (residues p) (res p x) (declared a)) (ap (λ (j : ℕ). getD b j 0) (sym z) ∙ sym (ended-lead b (n .second-ended))))
+        by-degree (suc k) z =
+            sym (determinant-monic ∙ ap scaled (determinant-zero e (omega arith)) ∙ ⊗-zero (residues p) (pow (residues p) (res p (lead b)) (declared a)))
 
-    -- the sequence goes on with t
-    formula-next : (rs : List (List ℕ)) → Ended t → length t ≤ declared r → formula p (d ∷ t ∷ rs) ≡ rowDeterminant p d t
-        → formula p (before ∷ r ∷ t ∷ rs) ≡ rowDeterminant p before r
-    formula-next rs some short later =
-        formula-step p before r t rs
-        ∙ ap (λ (z : C). pow (residues p) (res p (lead r)) (degree before) ⊗ (sign (residues p) (degree before * degree r) ⊗ z))
-        (formula-head p r d t rs same ∙ later)
-        ∙ ap (λ (n : ℕ). pow (residues p) (res p (lead r)) (degree before) ⊗ (sign (residues p) (degree before * n) ⊗ rowDeterminant p d t)) (ended-degree r endedB ∙ sym (monic-declared p r))
-        ∙ ap (λ (n : ℕ). pow (residues p) (res p (lead r)) n ⊗ (sign (residues p) (n * declared d) ⊗ rowDeterminant p d t)) (ended-degree before endedA)
-        ∙ sym (determinant-monic ∙ ap (λ (z : C). pow (residues p) (res p (lead r)) (declared before) ⊗ z) (determinant-next some short))
+    formula-more : (rs : List (List ℕ)) → declared t < declared b → formula p (d ∷ t ∷ rs) ≡ rowDeterminant p d t
+        → formula p (a ∷ b ∷ t ∷ rs) ≡ rowDeterminant p a b
+    unfolding scaled
+    formula-more rs less later =
+        formula-step p a b t rs
+        ∙ ap (λ (k : ℕ). pow (residues p) (res p (lead b)) k ⊗ (sign (residues p) (k * degree b) ⊗ formula p (b ∷ t ∷ rs))) (ended-degree a (n .first-ended))
+        ∙ ap (λ (k : ℕ). scaled (sign (residues p) (declared a * k) ⊗ formula p (b ∷ t ∷ rs))) same
+        ∙ ap (λ (z : C). scaled (sign (residues p) (declared a * declared d) ⊗ z))
+        (formula-head p b d t rs (same ∙ sym (ended-degree d (monic-ended p two prime b (n .second-ended) (n .second-below)))) ∙ later)
+        ∙ sym (determinant-monic ∙ ap scaled (determinant-next less))
       where
-        same : degree r ≡ degree d
-        same = ended-degree r endedB ∙ sym (monic-declared p r) ∙ sym (ended-degree d (monic-ended p two prime r endedB belowB))
+        same : degree b ≡ declared d
+        same = ended-degree b (n .second-ended) ∙ sym (monic-declared p b)
 
-    -- what follows r has the determinant of one division later
-    formula-turn : (k : ℕ) → length r ≤ suc k → Below p before
-        → (Ended t → Below p t → declared t ≤ declared d → length t ≤ k → formula p (d ∷ following p k d t) ≡ rowDeterminant p d t)
-        → formula p (before ∷ r ∷ following p k d t) ≡ rowDeterminant p before r
-    formula-turn k fuel belowA later = by-next (next-row p two prime r endedB belowB before belowA)
-      where
-        by-next : (t ≡ []) ⊎ (Ended t × Below p t × (length t ≤ declared r)) → formula p (before ∷ r ∷ following p k d t) ≡ rowDeterminant p before r
-        by-next (inl e) =
-            ap (λ (l : List ℕ). formula p (before ∷ r ∷ following p k d l)) e
-            ∙ ap (λ (l : List (List ℕ)). formula p (before ∷ r ∷ l)) (following-none p k d)
-            ∙ formula-end e
-        by-next (inr h) =
-            ap (λ (l : List (List ℕ)). formula p (before ∷ r ∷ l)) (rest .1)
-            ∙ formula-next (rest .0) (h .0) (h .2)
-            (ap (λ (l : List (List ℕ)). formula p (d ∷ l)) (sym (rest .1))
-            ∙ later (h .0) (h .1) (omega (arith, h .2, declared-length t (h .0 .0), monic-declared p r)) short)
-          where
-            short : length t ≤ k
-            short = omega (arith, h .2, declared-length r (endedB .0))
-
-            rest : (rs : List (List ℕ)) × (following p k d t ≡ t ∷ rs)
-            rest = following-some p k d t (h .0 .0) short
-
-  pub formula-right : (k : ℕ) (before r : List ℕ) → Ended before → Below p before → Ended r → Below p r → declared r ≤ declared before → length r ≤ k
-      → formula p (before ∷ following p k before r) ≡ rowDeterminant p before r
-  unfolding following
-  formula-right zero before r ea ba eb bb order fuel = absurd (omega (arith, eb .0))
-  formula-right (suc k) before [] ea ba eb bb order fuel = absurd (omega (arith, eb .0))
-  formula-right (suc k) before (x ∷ r) ea ba eb bb order fuel =
-      formula-turn before (x ∷ r) ea eb bb order k fuel ba
-      (λ et bt. formula-right k (monic p (x ∷ r)) (trim (remainder p before (monic p (x ∷ r))))
-      (monic-ended p two prime (x ∷ r) eb bb) (monic-below p (x ∷ r) (omega arith)) et bt)
+  pub formula-right : (k : ℕ) (a b : List ℕ) → Neighbours p a b → length b ≤ k → formula p (a ∷ following p k a b) ≡ rowDeterminant p a b
+  formula-right =
+      following-induction p two prime (λ a b rs. formula p (a ∷ rs) ≡ rowDeterminant p a b) formula-last
+      (λ a b rs n _ less later. formula-more a b n rs less later)
 
   pub rowResultant-right : (a b : List ℕ) → Ended a → Below p a → Ended b → Below p b → rowResultant p a b ≡ rowDeterminant p a b
   unfolding rowResultant bySize sequence rowDeterminant
@@ -212,14 +177,9 @@ module _ (p : ℕ) (two : 2 ≤ p) (prime : Prime p) where
     where
       by-size : (t : Bool) → ltb (degree a) (degree b) ≡ t → bySize p t a b ≡ rowDeterminant p a b
       by-size true e =
-          ap (λ (z : C). sign (residues p) (degree a * degree b) ⊗ z) (formula-right (length a) b a eb bb ea ba less (omega arith))
-          ∙ ap (λ (n : ℕ). sign (residues p) (n * degree b) ⊗ rowDeterminant p b a) (ended-degree a ea)
-          ∙ ap (λ (n : ℕ). sign (residues p) (declared a * n) ⊗ rowDeterminant p b a) (ended-degree b eb)
+          ap (λ (z : C). sign (residues p) (degree a * degree b) ⊗ z)
+          (formula-right (length a) b a (shorter-neighbours p a b ea ba eb bb e) (omega arith))
+          ∙ ap (λ (k : ℕ). sign (residues p) (k * degree b) ⊗ rowDeterminant p b a) (ended-degree a ea)
+          ∙ ap (λ (k : ℕ). sign (residues p) (declared a * k) ⊗ rowDeterminant p b a) (ended-degree b eb)
           ∙ sym (resultant-swap (residues p) (declared a) (declared b) (coef p a) (coef p b))
-        where
-          less : declared a ≤ declared b
-          less = omega (arith, ltb-true (degree a) (degree b) e, ended-degree a ea, ended-degree b eb)
-      by-size false e = formula-right (length b) a b ea ba eb bb less (omega arith)
-        where
-          less : declared b ≤ declared a
-          less = omega (arith, ltb-false (degree a) (degree b) e, ended-degree a ea, ended-degree b eb)
+      by-size false e = formula-right (length b) a b (longer-neighbours p a b ea ba eb bb e) (omega arith)
