@@ -1,5 +1,6 @@
 -- Determinants: expansion by the first column, and the laws that concern one row.
 --
+--   skip-lt           a column of a minor is a column of the matrix
 --   det-ext           the determinant looks at the entries inside the size only
 --   det-transpose     rows and columns may change places
 --   det-by-column     expansion by the first column
@@ -7,7 +8,7 @@
 --   det-linear        linear in row i: a row plus a multiple of another row
 --   det-add           additive in row i
 --   det-scale         a factor of row i
---   det-put           replacing row i, entry by entry
+--   det-put           a matrix that has r as row i and agrees with A elsewhere, entry by entry
 --   det-zero-row      a row of zeros
 --   det-triangular    zeros below the diagonal and one value along it
 use Prim.Native.Nat.{ℕ, zero, suc, _≤_, _<_}
@@ -21,7 +22,6 @@ use Rattle.ring.specs.Alt.{alt-ext, alt-linear, alt-scale, alt-swap, alt
 use Rattle.ring.specs.Matrix.{put, put-is, put-columns}
 use Rattle.ring.specs.Det.{skip, minor, det}
 
--- a column of the minor is a column of the matrix
 pub skip-lt : (j k n : ℕ) → k < n → skip j k < suc n
 unfolding skip
 skip-lt zero k n h = omega arith
@@ -44,7 +44,8 @@ module _ (R : Ring) where
   Transposes : ℕ → Type 0
   Transposes n = (A : ℕ → ℕ → C) → det R n (λ i k. A k i) ≡ det R n A
 
-  -- the terms of a determinant that meet neither the corner nor each other in the first row and the first column
+  -- the part of a determinant whose terms pass by the corner: one entry of the first row, one of the first column, and
+  -- a minor of what is left
   cross : ℕ → (ℕ → ℕ → C) → C
   cross m A =
       alt R (suc m) (λ j. alt R (suc m) (λ i. A zero (suc j) ⊗ (A (suc i) zero ⊗ det R m (λ a b. A (suc (skip i a)) (suc (skip j b))))))
@@ -81,7 +82,6 @@ module _ (R : Ring) where
       ∙ ap (λ (x : C). A zero zero ⊗ det R (suc m) (λ i k. A (suc i) (suc k)) ⊕ (⊖ x)) (cross-swap m A (det-transpose m))
       ∙ sym (det-cross m A (det-transpose m) (det-transpose (suc m)))
 
-  -- the determinant by the first column
   pub det-by-column : (n : ℕ) (A : ℕ → ℕ → C)
       → det R (suc n) A ≡ alt R (suc n) (λ i. A i zero ⊗ det R n (λ a b. A (skip i a) (suc b)))
   unfolding det
@@ -148,7 +148,6 @@ module _ (R : Ring) where
       ∙ ap (λ (x : C). x ⊕ c ⊗ det R n (put i r A)) (put-zero n i A l)
       ∙ zero-⊕ R (c ⊗ det R n (put i r A))
 
-  -- a matrix that has r as row i and agrees with A elsewhere
   pub det-put : (n i : ℕ) (r : ℕ → C) (A B : ℕ → ℕ → C) → ((k : ℕ) → k < n → B i k ≡ r k)
       → ((j k : ℕ) → j < n → k < n → j ≢ i → B j k ≡ A j k) → det R n B ≡ det R n (put i r A)
   det-put n i r A B at off =

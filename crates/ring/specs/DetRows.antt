@@ -1,8 +1,9 @@
 -- Determinants: laws that change many rows at once.
 --
---   det-add-rows      multiples of later rows added to the first rows
---   det-scale-rows    the first rows multiplied by one factor
---   det-scale-last    the last rows multiplied by one factor
+--   det-add-rows         multiples of later rows added to the first rows
+--   det-scale-between    rows s to s + t multiplied by one factor
+--   det-scale-rows       the first rows multiplied by one factor
+--   det-scale-last       the last rows multiplied by one factor
 use Prim.Native.Nat.{ℕ, zero, suc, _+_, _≤_, _<_}
 use native.Mathlib.Nat.{le-refl}
 use native.Mathlib.Decide.{decLt, ℕ-discrete}
@@ -91,7 +92,6 @@ module _ (R : Ring) where
           ∙ det-add-multiple R N i (f i) (c i) M (omega arith) (omega arith) lN
           ∙ sym (one-⊗ R (det R N M))
 
-  -- rows s to s + t multiplied by c
   pub det-scale-between : (N s t : ℕ) (A B : ℕ → ℕ → C) (c : C) → s + t ≤ N → ((i k : ℕ) → s ≤ i → i < s + t → k < N → B i k ≡ c ⊗ A i k)
       → ((i k : ℕ) → i < s → k < N → B i k ≡ A i k) → ((i k : ℕ) → s + t ≤ i → i < N → k < N → B i k ≡ A i k)
       → det R N B ≡ pow R c t ⊗ det R N A

@@ -1,6 +1,7 @@
 -- Commutative rings, finite sums and determinants.
 pub mod Ring
 pub mod RingLaws
+pub mod Solver
 pub mod Sum
 pub mod SumLaws
 pub mod Alt
