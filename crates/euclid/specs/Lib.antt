@@ -2,4 +2,10 @@
 pub mod Row
 pub mod RowLaws
 pub mod Division
+pub mod DivisionLaws
+pub mod DivisionUnique
 pub mod Sequence
+pub mod MonicLaws
+pub mod FollowingLaws
+pub mod SequenceLaws
+pub mod StepsLaws
