@@ -2,3 +2,4 @@
 pub mod Job
 pub mod Calls
 pub mod Sound
+pub mod Standing
