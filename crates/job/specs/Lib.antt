@@ -3,3 +3,5 @@ pub mod Job
 pub mod Calls
 pub mod Sound
 pub mod Standing
+pub mod Public
+pub mod Demand
