@@ -7,3 +7,4 @@ pub mod Search
 pub mod Evaluation
 pub mod Degree
 pub mod Recovery
+pub mod Usable
