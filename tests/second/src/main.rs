@@ -1,0 +1,35 @@
+//! `second [CASES [SEED]]` compares the kernel with the definition; the seed is printed, and gives the same cases again.
+
+use second::{decks, jobs, known, rows};
+use std::path::Path;
+
+fn main() {
+    let mut words = std::env::args().skip(1).map(|w| w.parse::<u64>());
+    let mut number = |otherwise: u64| match words.next() {
+        None => otherwise,
+        Some(Ok(n)) => n,
+        Some(Err(_)) => {
+            eprintln!("usage: second [CASES [SEED]]");
+            std::process::exit(2);
+        }
+    };
+    let (cases, seed) = (number(2000), number(20_261_115));
+    let deck = Path::new(env!("CARGO_MANIFEST_DIR")).join("../../target/bin/deck");
+    let reports = [
+        known::compare(),
+        rows::compare(4 * cases, seed),
+        jobs::compare(cases, seed),
+        decks::compare(&deck, cases, seed),
+    ];
+    let mut passed = 0;
+    let mut failed = 0;
+    for report in &reports {
+        report.line();
+        passed += report.passed;
+        failed += report.failed;
+    }
+    println!("{passed} passed, {failed} failed");
+    if failed > 0 {
+        std::process::exit(1);
+    }
+}
