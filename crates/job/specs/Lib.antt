@@ -3,3 +3,4 @@ pub mod Job
 pub mod Calls
 pub mod Sound
 pub mod Standing
+pub mod SamePair
