@@ -4,3 +4,6 @@ pub mod Calls
 pub mod Sound
 pub mod Standing
 pub mod SamePair
+pub mod TestLaws
+pub mod TableLaws
+pub mod OpenLaws
