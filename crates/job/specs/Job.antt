@@ -31,7 +31,7 @@ opened p m e n f s t =
       a = spread e s;
       b = spread f t;
       points = replicate 513 0;
-      values = replicate 513 0
+      values = replicate 513 0;
     }
 
 unfoldable pub blank : Job
@@ -46,7 +46,7 @@ blank =
       a = replicate 289 0;
       b = replicate 289 0;
       points = replicate 513 0;
-      values = replicate 513 0
+      values = replicate 513 0;
     }
 
 unfoldable pub keptPoints : Job → List ℕ
@@ -64,5 +64,5 @@ stored j a =
       a = j .a;
       b = j .b;
       points = set (j .points) (j .count) a;
-      values = set (j .values) (j .count) (kept (pairOf j) a)
+      values = set (j .values) (j .count) (kept (pairOf j) a);
     }

@@ -2,6 +2,10 @@
 pub mod Job
 pub mod Calls
 pub mod Sound
-pub mod Standing
 pub mod Public
 pub mod Demand
+pub mod Standing
+pub mod SamePair
+pub mod TestLaws
+pub mod TableLaws
+pub mod OpenLaws
