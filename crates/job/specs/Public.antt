@@ -17,6 +17,7 @@ use lib.ListN.{length, drop}
 use Rattle.scope.specs.Pair.{Pair, tables}
 use Rattle.scope.specs.Point.{room}
 use Rattle.scope.specs.Number.{openNumber, oneShotNumber, lotNumber}
+use Rattle.scope.specs.Answers.{onlyDone}
 use Rattle.job.specs.declared.Job.{Job}
 use Rattle.job.specs.Job.{pairOf, opened, blank}
 use Rattle.job.specs.Calls.{offerNumber, offered, lotAnswers, lotted, reading, wanted, written, degreeOf, isZero}
@@ -54,10 +55,6 @@ readAnswer j out = cond (sound? j) (reading j (length out)) 16
 
 unfoldable pub readWanted : Job → List ℕ → ℕ
 readWanted j out = cond (eqb (readAnswer j out) 14) (wanted j) 0
-
--- the answer to a number 0 is given, any other carries 0
-unfoldable pub onlyDone : ℕ → ℕ → ℕ
-onlyDone r x = cond (eqb r 0) x 0
 
 -- the lent output at exit: the determinant's coefficients where the number is 0, else as it was
 unfoldable pub outAfter : ℕ → Pair → List ℕ → List ℕ

@@ -3,6 +3,7 @@ pub mod Pair
 pub mod Point
 pub mod Number
 pub mod Figures
+pub mod Answers
 pub mod Search
 pub mod Evaluation
 pub mod Degree

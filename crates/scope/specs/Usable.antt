@@ -41,6 +41,7 @@ rowAt-below p m e A a pos i = elim (decLt m i) [ yes o ↦ past o | no o ↦ ins
     past : m < i → getD (rowAt p m e A a) i 0 < p
     past o =
         let z : getD (rowAt p m e A a) i 0 ≡ 0 = List·getD-eq-default (rowAt p m e A a) 0 (omega (arith, rowAt-length p m e A a)) in omega arith
+
     inside : i ≤ m → getD (rowAt p m e A a) i 0 < p
     inside o = omega (arith, rowAt-getD p m e A a i o, valueAt-below p e A i a pos)
 
@@ -50,10 +51,11 @@ and-true false b e = let z : _≡_ {A = ℕ} 0 1 = cc in absurd (omega arith)
 
 -- a row whose value of the leading coefficient is not 0 ends so
 rowAt-ended : (p m e : ℕ) (A : ℕ → ℕ → ℕ) (a : ℕ) → not (eqb (valueAt p e A m a) 0) ≡ true → Ended (rowAt p m e A a)
-rowAt-ended p m e A a h =
-    (omega (arith, rowAt-length p m e A a),
-    λ z. eqb-false (valueAt p e A m a) 0 (not-true (eqb (valueAt p e A m a) 0) h)
-    (sym (rowAt-getD p m e A a m (omega arith)) ∙ ap (λ (i : ℕ). getD (rowAt p m e A a) i 0) (sym (rowAt-declared p m e A a)) ∙ z))
+rowAt-ended p m e A a h = (
+  omega (arith, rowAt-length p m e A a),
+  λ z. eqb-false (valueAt p e A m a) 0 (not-true (eqb (valueAt p e A m a) 0) h)
+      (sym (rowAt-getD p m e A a m (omega arith)) ∙ ap (λ (i : ℕ). getD (rowAt p m e A a) i 0) (sym (rowAt-declared p m e A a)) ∙ z),
+)
 
 pub usable-ended : (P : Pair) (a : ℕ) → usable P a ≡ true → Ended (rowA P a) × Ended (rowB P a)
 unfolding usable rowA rowB
