@@ -1,0 +1,165 @@
+-- What a deck means: from its bytes to the lines that are printed and the state that is left.
+--
+--   bodyLength k            how many bytes the body of a record of kind k has
+--   number4 body at         the little-endian number in four bytes
+--   fresh                   the state before the first record
+--   inOrder stage k         a record of kind k may stand here
+--   deckNumber d k body     the deck refusal of a record: 21, 22, 23, 4, 24, or 0; body is what arrived of it
+--   tableA d, tableB d      the coefficients set so far, laid out for degree 16 in y (which changes no answer)
+--   opening d               the number that the opening answers
+--   taken d k body          the state after a record that is not refused
+--   lineOf d k body         the line that it prints, or nothing
+--   stops d k               the run stops after it
+--   deck, lines, finally    the lines of a whole deck, and the state it leaves
+use Prim.Native.Nat.{ℕ, zero, suc, _+_, _*_}
+use mathlib.Core.Bool.{Bool, true, false, cond, not, _&&_, _||_}
+use mathlib.Core.List.{List, [], _∷_, _++_}
+use lib.Dec.{ltb, leb, eqb}
+use lib.ListN.{length, getD, take, drop, set, replicate}
+use Rattle.scope.specs.Pair.{bound}
+use Rattle.scope.specs.Number.{_gives_otherwise_, tooHigh}
+use Rattle.scope.specs.Point.{room}
+use Rattle.job.specs.declared.Job.{Job}
+use Rattle.job.specs.Job.{pairOf, blank}
+use Rattle.job.specs.Calls.{offerNumber, offered, reading, wanted, written, degreeOf, isZero}
+use Rattle.job.specs.Public.{strictNumber, strictJob}
+use Rattle.decks.specs.declared.Deck.{Deck}
+use Rattle.decks.specs.Text.{line, spaced, decimal, openWord, pointWord, readWord, deckWord, endWord}
+
+unfoldable pub known : ℕ → Bool
+known k = leb 1 k && leb k 6
+
+unfoldable pub bodyLength : ℕ → ℕ
+bodyLength k = cond (eqb k 3) 7 (cond (eqb k 1 || eqb k 2 || eqb k 5) 4 0)
+
+unfoldable pub byte : List ℕ → ℕ → ℕ
+byte body at = getD body at 0
+
+unfoldable pub number4 : List ℕ → ℕ → ℕ
+number4 body at = byte body at + 256 * byte body (at + 1) + 65536 * byte body (at + 2) + 16777216 * byte body (at + 3)
+
+unfoldable pub fresh : Deck
+fresh =
+    record {
+      stage = 0;
+      p = 0;
+      m = 0;
+      e = 0;
+      n = 0;
+      f = 0;
+      a = replicate 289 0;
+      b = replicate 289 0;
+      job = blank
+    }
+
+unfoldable pub inOrder : ℕ → ℕ → Bool
+inOrder stage k =
+    (eqb stage 0 && eqb k 1)
+    || (eqb stage 1 && eqb k 2)
+    || (eqb stage 2 && (eqb k 3 || eqb k 4))
+    || (eqb stage 3 && (eqb k 5 || eqb k 6))
+
+-- a side or place outside the shape
+unfoldable pub astray : Deck → List ℕ → Bool
+astray d body =
+    ltb 1 (byte body 0)
+    || cond (eqb (byte body 0) 0)
+      (ltb (d .m) (byte body 1) || ltb (d .e) (byte body 2))
+      (ltb (d .n) (byte body 1) || ltb (d .f) (byte body 2))
+
+unfoldable pub deckNumber : Deck → ℕ → List ℕ → ℕ
+deckNumber d k body =
+    not (known k) gives 21 otherwise
+    ltb (length body) (bodyLength k) gives 22 otherwise
+    not (inOrder (d .stage) k) gives 23 otherwise
+    (eqb k 2 && (tooHigh (byte body 0) || tooHigh (byte body 1) || tooHigh (byte body 2) || tooHigh (byte body 3))) gives 4 otherwise
+    (eqb k 3 && astray d body) gives 24 otherwise 0
+
+unfoldable pub tableA : Deck → List ℕ
+tableA d = take ((d .m + 1) * 17) (d .a)
+
+unfoldable pub tableB : Deck → List ℕ
+tableB d = take ((d .n + 1) * 17) (d .b)
+
+unfoldable pub opening : Deck → ℕ
+opening d = strictNumber (d .p) (d .m) 16 (d .n) 16 (tableA d) (tableB d)
+
+unfoldable pub withModulus : Deck → List ℕ → Deck
+withModulus d body =
+    record { stage = 1; p = number4 body 0; m = d .m; e = d .e; n = d .n; f = d .f; a = d .a; b = d .b; job = d .job }
+
+unfoldable pub withDegrees : Deck → List ℕ → Deck
+withDegrees d body =
+    record { stage = 2; p = d .p; m = byte body 0; e = byte body 1; n = byte body 2; f = byte body 3; a = d .a; b = d .b; job = d .job }
+
+unfoldable pub withPlace : Deck → List ℕ → Deck
+withPlace d body =
+    cond (eqb (byte body 0) 0)
+    (record { stage = d .stage; p = d .p; m = d .m; e = d .e; n = d .n; f = d .f; a = set (d .a) (byte body 1 * 17 + byte body 2) (number4 body 3); b = d .b; job = d .job })
+    (record { stage = d .stage; p = d .p; m = d .m; e = d .e; n = d .n; f = d .f; a = d .a; b = set (d .b) (byte body 1 * 17 + byte body 2) (number4 body 3); job = d .job })
+
+unfoldable pub withJob : Deck → ℕ → Job → Deck
+withJob d stage j = record { stage = stage; p = d .p; m = d .m; e = d .e; n = d .n; f = d .f; a = d .a; b = d .b; job = j }
+
+unfoldable pub taken : Deck → ℕ → List ℕ → Deck
+taken d k body =
+    cond (eqb k 1) (withModulus d body)
+    (cond (eqb k 2) (withDegrees d body)
+    (cond (eqb k 3) (withPlace d body)
+    (cond (eqb k 4) (cond (eqb (opening d) 0) (withJob d 3 (strictJob (d .p) (d .m) 16 (d .n) 16 (tableA d) (tableB d))) d)
+    (cond (eqb k 5) (withJob d (d .stage) (offered (d .job) (number4 body 0))) d))))
+
+-- the lines of an opening, an offer and a read
+unfoldable pub openLine : Deck → List ℕ
+openLine d =
+    cond (eqb (opening d) 0)
+    (line openWord (0 ∷ bound (pairOf (strictJob (d .p) (d .m) 16 (d .n) 16 (tableA d) (tableB d))) ∷ []))
+    (line openWord (opening d ∷ []))
+
+unfoldable pub pointLine : Job → ℕ → List ℕ
+pointLine j a = line pointWord (a ∷ offerNumber j a ∷ [])
+
+-- the degree in words: a dash for the zero polynomial
+unfoldable pub degreeWord : Job → List ℕ
+degreeWord j = cond (isZero (pairOf j)) (45 ∷ []) (decimal (degreeOf (pairOf j)))
+
+-- a deck reads into as many entries as a read writes, so that only 14 refuses it
+unfoldable pub readLine : Job → List ℕ
+readLine j =
+    cond (eqb (reading j (room (pairOf j))) 0)
+    (readWord ++ (32 ∷ 48 ∷ 32 ∷ (degreeWord j ++ (spaced (written (pairOf j)) ++ 10 ∷ []))))
+    (line readWord (reading j (room (pairOf j)) ∷ wanted j ∷ []))
+
+unfoldable pub lineOf : Deck → ℕ → List ℕ → List ℕ
+lineOf d k body =
+    cond (eqb k 4) (openLine d)
+    (cond (eqb k 5) (pointLine (d .job) (number4 body 0))
+    (cond (eqb k 6) (readLine (d .job)) []))
+
+unfoldable pub stops : Deck → ℕ → Bool
+stops d k = eqb k 4 && not (eqb (opening d) 0)
+
+pub record Outcome : Type 0 where
+  pub text : List ℕ
+  pub state : Deck
+
+-- a line in front of what follows
+unfoldable pub before : List ℕ → Outcome → Outcome
+before text o = record { text = text ++ o .text; state = o .state }
+
+unfoldable pub halted : List ℕ → Deck → Outcome
+halted text d = record { text = text; state = d }
+
+-- from the record at `offset`, with `fuel` records at most
+unfoldable pub from : ℕ → ℕ → Deck → List ℕ → Outcome
+from zero offset d bytes = halted [] d
+from (suc fuel) offset d [] = halted (line endWord []) d
+from (suc fuel) offset d (k ∷ rest) =
+    let body = take (bodyLength k) rest in
+    let on = before (lineOf d k body) (from fuel (offset + 1 + bodyLength k) (taken d k body) (drop (bodyLength k) rest)) in
+    cond (eqb (deckNumber d k body) 0)
+    (cond (stops d k) (halted (lineOf d k body) d) on)
+    (halted (line deckWord (deckNumber d k body ∷ offset ∷ [])) d)
+
+unfoldable pub deck : List ℕ → Outcome
+deck bytes = from (suc (length bytes)) 0 fresh bytes

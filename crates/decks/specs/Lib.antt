@@ -1,0 +1,3 @@
+-- What a deck means.
+pub mod Text
+pub mod Deck
