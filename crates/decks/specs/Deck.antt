@@ -49,7 +49,7 @@ fresh =
       f = 0;
       a = replicate 289 0;
       b = replicate 289 0;
-      job = blank
+      job = blank;
     }
 
 unfoldable pub inOrder : ℕ → ℕ → Bool
@@ -64,8 +64,8 @@ unfoldable pub astray : Deck → List ℕ → Bool
 astray d body =
     ltb 1 (byte body 0)
     || cond (eqb (byte body 0) 0)
-      (ltb (d .m) (byte body 1) || ltb (d .e) (byte body 2))
-      (ltb (d .n) (byte body 1) || ltb (d .f) (byte body 2))
+    (ltb (d .m) (byte body 1) || ltb (d .e) (byte body 2))
+    (ltb (d .n) (byte body 1) || ltb (d .f) (byte body 2))
 
 unfoldable pub deckNumber : Deck → ℕ → List ℕ → ℕ
 deckNumber d k body =
