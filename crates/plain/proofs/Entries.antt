@@ -45,3 +45,57 @@ module _ (p : ℕ) (a : List ℕ) (i k : ℕ) where
   shifted-past some from past =
       res-zero p
       ∙ sym (shifted-from from ∙ top-out (residues p) (declared a) (coef p a) (k - i) (omega (arith, declared-length a some)))
+
+-- with n one less than b has entries
+module _ (p : ℕ) (a b : List ℕ) (some : 0 < length b) (i k : ℕ) where
+  pub matrix-low : i < length b - 1 → shiftedRow p a i k ≡ rowMatrix p a b i k
+  unfolding shiftedRow rowMatrix sylvester
+  matrix-low h =
+      sym (ap (λ (r : ℕ → Ring.C (residues p)). r k)
+      (stack-low (declared b) i (shiftedRow p a) (shiftedRow p b) (omega (arith, declared-length b some))))
+
+  pub matrix-high : length b - 1 ≤ i → shiftedRow p b (i - (length b - 1)) k ≡ rowMatrix p a b i k
+  unfolding shiftedRow rowMatrix sylvester
+  matrix-high h =
+      sym (ap (λ (z : ℕ). rowMatrix p a b z k) place
+      ∙ ap (λ (r : ℕ → Ring.C (residues p)). r k) (stack-high (declared b) (i - (length b - 1)) (shiftedRow p a) (shiftedRow p b)))
+    where
+      place : i ≡ declared b + (i - (length b - 1))
+      place = omega (arith, declared-length b some)
+
+pub record Filled (a b t : List ℕ) (c : ℕ) : Type 0 where
+  pub size : length t ≡ 36
+  pub done : (p s : ℕ) → s < c → res p (getD t s 0) ≡ rowMatrix p a b (s / 6) (s % 6)
+
+module _ {a b t : List ℕ} where
+  pub filled-first : length t ≡ 36 → Filled a b t 0
+  filled-first size = record { size = size; done = λ p s l. absurd (omega arith) }
+
+  pub filled-next : {c : ℕ} → Filled a b t c → c < 36 → (r : ℕ) → ((p : ℕ) → res p r ≡ rowMatrix p a b (c / 6) (c % 6))
+      → Filled a b (set t c r) (c + 1)
+  filled-next {c} h l r e =
+      record {
+        size = length-set t c r ∙ h .size;
+        done = λ p s ls. at p s (ℕ-discrete s c) ls;
+      }
+    where
+      at : (p s : ℕ) → Dec (s ≡ c) → s < c + 1 → res p (getD (set t c r) s 0) ≡ rowMatrix p a b (s / 6) (s % 6)
+      at p s (yes q) ls =
+          ap (λ (z : ℕ). res p (getD (set t c r) z 0)) q
+          ∙ ap (res p) (getD-set-same t c r 0 (omega (arith, h .size)))
+          ∙ e p
+          ∙ ap (λ (z : ℕ). rowMatrix p a b (z / 6) (z % 6)) (sym q)
+      at p s (no ne) ls = ap (res p) (getD-set-other t c s r 0 ne) ∙ h .done p s (omega arith)
+
+  pub filled-last : {c : ℕ} → Filled a b t c → 36 ≤ c → (p i k : ℕ) → i < 6 → k < 6 → cell p t i k ≡ rowMatrix p a b i k
+  unfolding cell
+  filled-last h all p i k li lk =
+      h .done p (i * 6 + k) (omega arith)
+      ∙ ap (λ (z : ℕ). rowMatrix p a b z ((i * 6 + k) % 6)) row
+      ∙ ap (λ (z : ℕ). rowMatrix p a b i z) column
+    where
+      row : (i * 6 + k) / 6 ≡ i
+      row = omega arith
+
+      column : (i * 6 + k) % 6 ≡ k
+      column = omega arith

@@ -56,8 +56,8 @@ fn fill(a: &[u32], b: &[u32]) -> [u32; 36]
     ensures { λ r. ⌜ ((p i k : ℕ) → i < 6 → k < 6 → cell p r i k ≡ rowMatrix p (now (a .entry)) (now (b .entry)) i k) ⌝ }
 {
     let mut table = [0u32; 36];
-    for c in 0..36usize {
-        table[c] = entry(a, b, c / 6, c % 6);
+    for at in 0..36usize {
+        table[at] = entry(a, b, at / 6, at % 6);
     }
     table
 }
