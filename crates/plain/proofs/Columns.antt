@@ -1,17 +1,20 @@
 -- Columns with one taken out.
 --
 --   skip-low, skip-high   skip j k is k before j, and one more from j on
+--   every                 all six columns in their order
+--   every-at, every-columns   the column at each place of them; they are columns of a table
 --   Closing cols j out k  the places of out below k are closed up over place j of cols; the others are those of cols
---   closing-first, closing-next, closing-last   such lists before the first step, after one more, and at the end
+--   closing-first, closing-next   such lists before the first step and after one more
 use Prim.Native.Nat.{ℕ, zero, suc, _+_, _<_, _≤_}
 use native.Mathlib.Omega.{arith}
 use native.Mathlib.Numerals.{add-one}
 use native.Mathlib.Decide.{decLt, ℕ-discrete}
 use mathlib.Core.Path.{_≡_, refl, sym, ap, _∙_}
-use mathlib.Core.List.{List}
+use mathlib.Core.List.{List, [], _∷_}
 use lib.ListN.{length, getD, set, length-set}
 use lib.Seq.{getD-set-same, getD-set-other}
 use Rattle.ring.specs.Det.{skip}
+use Rattle.plain.specs.Expansion.{Columns}
 
 pub skip-low : (j k : ℕ) → k < j → skip j k ≡ k
 unfolding skip
@@ -24,6 +27,21 @@ unfolding skip
 skip-high zero k h = refl
 skip-high (suc j) zero h = absurd (omega arith)
 skip-high (suc j) (suc k) h = ap suc (skip-high j k (omega arith))
+
+abbrev pub every : List ℕ
+every = 0 ∷ 1 ∷ 2 ∷ 3 ∷ 4 ∷ 5 ∷ []
+
+pub every-at : (k : ℕ) → k < 6 → getD every k 0 ≡ k
+every-at zero h = refl
+every-at (suc zero) h = refl
+every-at (suc (suc zero)) h = refl
+every-at (suc (suc (suc zero))) h = refl
+every-at (suc (suc (suc (suc zero)))) h = refl
+every-at (suc (suc (suc (suc (suc zero))))) h = refl
+every-at (suc (suc (suc (suc (suc (suc k)))))) h = absurd (omega arith)
+
+pub every-columns : (n : ℕ) → n ≤ 6 → Columns n every
+every-columns n most k l = omega (arith, every-at k (omega arith))
 
 pub record Closing (cols : List ℕ) (j : ℕ) (out : List ℕ) (k : ℕ) : Type 0 where
   pub from : j ≤ k
