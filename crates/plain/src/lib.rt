@@ -39,7 +39,7 @@ fn shifted(a: &[u32], i: usize, k: usize) -> u32
 }
 
 // Sylvester's matrix of a and b: row i, column k
-fn entry(a: &[u32], b: &[u32], i: usize, k: usize) -> u32
+fn sylvester_entry(a: &[u32], b: &[u32], i: usize, k: usize) -> u32
     requires { ⌜ (0 < length (now a)) × (0 < length (now b)) ⌝ }
     ensures { λ r. ⌜ ((p : ℕ) → res p r ≡ rowMatrix p (now (a .entry)) (now (b .entry)) i k) ⌝ }
 {
@@ -57,7 +57,7 @@ fn fill(a: &[u32], b: &[u32]) -> [u32; 36]
 {
     let mut table = [0u32; 36];
     for at in 0..36usize {
-        table[at] = entry(a, b, at / 6, at % 6);
+        table[at] = sylvester_entry(a, b, at / 6, at % 6);
     }
     table
 }
@@ -90,7 +90,11 @@ fn term(p: u32, table: &[u32; 36], row: usize, left: usize, cols: [usize; 6], j:
     let col = cols[j];
     let minor = determinant(p, table, row + 1, left - 1, without(cols, j));
     let product = mul(p, table[row * 6 + col], minor);
-    if j % 2 == 0 { product } else { sub(p, 0, product) }
+    if j % 2 == 0 {
+        product
+    } else {
+        sub(p, 0, product)
+    }
 }
 
 // The determinant of Sylvester's matrix of the rows a and b, modulo p

@@ -45,17 +45,16 @@ abbrev determinant-calls : ℕ → determinant-lts.Claims
 determinant-calls t = (term-below t, term.Post, add-reads.Asked, add-reads.Learnt)
 
 abbrev term-calls : ℕ → term-lts.Claims
-term-calls t =
-    (
-      without-reads.Asked,
-      without-reads.Learnt,
-      determinant-below t,
-      determinant.Post,
-      mul-reads.Asked,
-      mul-reads.Learnt,
-      sub-reads.Asked,
-      sub-reads.Learnt,
-    )
+term-calls t = (
+  without-reads.Asked,
+  without-reads.Learnt,
+  determinant-below t,
+  determinant.Post,
+  mul-reads.Asked,
+  mul-reads.Learnt,
+  sub-reads.Asked,
+  sub-reads.Learnt,
+)
 
 -- the terms before place j are added up
 abbrev determinant-Inv-loop : determinant-lts.InvT-loop

@@ -15,8 +15,8 @@ abbrev μ-loop : tie.MeasureT-loop
 loop-holds : tie.Need-loop-holds Inv-loop μ-loop
 loop-holds c = filled-first refl
 
-entry-requires : tie.Need-entry-requires Inv-loop μ-loop
-entry-requires c κs = omega arith
+sylvester-entry-requires : tie.Need-sylvester-entry-requires Inv-loop μ-loop
+sylvester-entry-requires c κs = omega arith
 
 mul-table : tie.Need-mul-table Inv-loop μ-loop
 mul-table c = omega arith
@@ -31,7 +31,7 @@ loop-less : tie.Need-loop-less Inv-loop μ-loop
 loop-less c = omega arith
 
 loop-again : tie.Need-loop-again Inv-loop μ-loop
-loop-again c = filled-next (c .before .before .loop .inv) (omega arith) (c .entry .result) (c .entry .ensures)
+loop-again c = filled-next (c .before .before .loop .inv) (omega arith) (c .sylvester-entry .result) (c .sylvester-entry .ensures)
 
 returns : tie.Need-returns Inv-loop μ-loop
 returns c = filled-last (c .before .loop .inv) (omega arith)
@@ -43,7 +43,7 @@ fill-spec =
     Inv-loop
     μ-loop
     loop-holds
-    entry-requires
+    sylvester-entry-requires
     mul-table
     array-write-table
     add-at

@@ -27,7 +27,7 @@ determinant-requires : tie.Need-determinant-requires
 determinant-requires c κs =
     let args = c .before .before .before .before .args in
     let size : length (args .a .now) - 1 + (length (args .b .now) - 1) ≤ 6 =
-        omega (arith, declared-length (args .a .now) (omega arith), declared-length (args .b .now) (omega arith)) in
+    omega (arith, declared-length (args .a .now) (omega arith), declared-length (args .b .now) (omega arith)) in
     (omega arith, (omega arith, every-columns _ size))
 
 returns : tie.Need-returns

@@ -1,10 +1,10 @@
--- `plain::entry`: the rows before n are a's, the others b's.
+-- `plain::sylvester_entry`: the rows before n are a's, the others b's.
 use native.Mathlib.Omega.{arith}
 use mathlib.Core.Path.{_∙_}
 use borrow.Author.Needs.{needs}
 use Rattle.plain.proofs.Entries.{matrix-low, matrix-high}
-use Rattle.plain.proofs.entry.Statement.{statement}
-use Rattle.plain.proofs.entry.Tie as tie
+use Rattle.plain.proofs.sylvester_entry.Statement.{statement}
+use Rattle.plain.proofs.sylvester_entry.Tie as tie
 
 sub-n : tie.Need-sub-n
 sub-n c = search needs
@@ -25,5 +25,5 @@ returns-2 c =
     let args = c .before .before .before .before .args in
     λ p. c .shifted2 .ensures p ∙ matrix-high p (args .a .now) (args .b .now) (omega arith) (args .i) (args .k) (omega arith)
 
-pub entry-spec : {M : Type 1} → statement M
-entry-spec = tie.close (tie.spec sub-n shifted-requires returns shifted-requires-2 returns-2)
+pub sylvester-entry-spec : {M : Type 1} → statement M
+sylvester-entry-spec = tie.close (tie.spec sub-n shifted-requires returns shifted-requires-2 returns-2)
