@@ -1,14 +1,14 @@
--- Columns with one taken out.
+-- Columns of a table: all of them, and without one.
 --
---   skip-low, skip-high   skip j k is k before j, and one more from j on
---   every                 all six columns in their order
+--   skip-low, skip-high       skip j k is k before j, and one more from j on
+--   every                     all six columns in their order
 --   every-at, every-columns   the column at each place of them; they are columns of a table
---   Closing cols j out k  the places of out below k are closed up over place j of cols; the others are those of cols
+--   Closing cols j out k      the places of out below k are closed up over place j of cols; the others are those of cols
 --   closing-first, closing-next   such lists before the first step and after one more
 use Prim.Native.Nat.{ℕ, zero, suc, _+_, _<_, _≤_}
 use native.Mathlib.Omega.{arith}
 use native.Mathlib.Numerals.{add-one}
-use native.Mathlib.Decide.{decLt, ℕ-discrete}
+use native.Mathlib.Decide.{ℕ-discrete}
 use mathlib.Core.Path.{_≡_, refl, sym, ap, _∙_}
 use mathlib.Core.List.{List, [], _∷_}
 use lib.ListN.{length, getD, set, length-set}

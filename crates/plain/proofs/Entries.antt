@@ -2,10 +2,10 @@
 --
 --   shifted-before, shifted-within, shifted-past   a row moved i places right: before place i, on the row, past its end
 --   matrix-low, matrix-high    the first n rows of the matrix are a's, the others b's
---   Filled A t c               the places of the table t below c hold the first six rows and columns of A, row after row
+--   Filled a b t c             the places of the table t below c hold the matrix of a and b, six entries of each row
 --   filled-first, filled-next, filled-last   such tables before the first step, after one more, and at the end
 --   table-determinant          the determinant of the matrix that such a table holds
-use Prim.Native.Nat.{ℕ, zero, suc, _+_, _*_, _-_, _/_, _%_, _<_, _≤_}
+use Prim.Native.Nat.{ℕ, _+_, _*_, _-_, _/_, _%_, _<_, _≤_}
 use native.Mathlib.Nat.{zero-add}
 use native.Mathlib.Omega.{arith}
 use native.Mathlib.Decide.{ℕ-discrete}
@@ -17,7 +17,7 @@ use Rattle.ring.specs.Ring.{Ring}
 use Rattle.ring.specs.Matrix.{stack-low, stack-high}
 use Rattle.ring.specs.Det.{det}
 use Rattle.ring.specs.DetLaws.{det-ext}
-use Rattle.residue.specs.Residue.{residues, res, res-zero}
+use Rattle.residue.specs.Residue.{residues, res, val, res-zero}
 use Rattle.sylvester.specs.Sylvester.{top, moved, sylvester, resultant}
 use Rattle.sylvester.specs.Shift.{top-at, top-out, moved-at, moved-out}
 use Rattle.euclid.specs.Row.{coef, declared, rowDeterminant}
@@ -105,15 +105,16 @@ module _ {a b t : List ℕ} where
       column : (i * 6 + k) % 6 ≡ k
       column = omega arith
 
--- a table that holds Sylvester's matrix: the determinant of its first rows and columns, with m and n one less than a and
--- b have entries
-pub table-determinant : (p : ℕ) (a b t : List ℕ) → 0 < length a → 0 < length b → declared a + declared b ≤ 6
+-- with m and n one less than a and b have entries
+pub table-determinant : (p : ℕ) (a b t : List ℕ) {r : ℕ} → 0 < length a → 0 < length b → declared a + declared b ≤ 6
     → ((p i k : ℕ) → i < 6 → k < 6 → cell p t i k ≡ rowMatrix p a b i k)
-    → det (residues p) (length a - 1 + (length b - 1)) (part (cell p t) 0 every) ≡ rowDeterminant p a b
+    → r ≡ val p (det (residues p) (length a - 1 + (length b - 1)) (part (cell p t) 0 every))
+    → r ≡ val p (rowDeterminant p a b)
 unfolding rowDeterminant resultant rowMatrix part
-table-determinant p a b t some-a some-b most h =
-    ap (λ (n : ℕ). det (residues p) n (part (cell p t) 0 every)) size
-    ∙ det-ext (residues p) (declared a + declared b) (part (cell p t) 0 every) (rowMatrix p a b) at
+table-determinant p a b t some-a some-b most h hr =
+    hr
+    ∙ ap (λ (n : ℕ). val p (det (residues p) n (part (cell p t) 0 every))) size
+    ∙ ap (val p) (det-ext (residues p) (declared a + declared b) (part (cell p t) 0 every) (rowMatrix p a b) at)
   where
     size : length a - 1 + (length b - 1) ≡ declared a + declared b
     size = omega (arith, declared-length a some-a, declared-length b some-b)

@@ -25,7 +25,7 @@ use Rattle.ring.specs.Det.{skip, minor, det}
 use Rattle.ring.specs.DetLaws.{skip-lt, det-ext}
 use Rattle.residue.specs.Residue.{residues, res, val, val-𝟘, val-⊕, val-lt, val-𝟙, val-res-small, res-val, res-zero}
 use Rattle.residue.specs.Computed.{product-res, difference-res}
-use Rattle.plain.specs.Expansion.{cell, part, Columns, signed}
+use Rattle.plain.specs.Expansion.{cell, part, Columns, TakenOut, signed}
 
 module _ (R : Ring) where
   open Ring R using (C, _⊕_, _⊗_, ⊖_, 𝟙)
@@ -57,7 +57,7 @@ module _ (R : Ring) where
   det-signed n A = alt-sum (suc n) (λ j. A zero j ⊗ det R n (minor R A j))
 
   pub det-minor : (A : ℕ → ℕ → C) (row : ℕ) (cols others : List ℕ) (j n : ℕ) → n ≤ 5
-      → ((k : ℕ) → k < 5 → getD others k 0 ≡ getD cols (skip j k) 0)
+      → TakenOut j cols others
       → det R n (part A (row + 1) others) ≡ det R n (minor R (part A row cols) j)
   unfolding part
   det-minor A row cols others j n most h =
@@ -67,13 +67,13 @@ pub remainder-below : (p : ℕ) → 0 < p → (n : ℕ) {r : ℕ} → r ≡ n % 
 remainder-below p pos n e = subst (λ (z : ℕ). z < p) (sym e) (mod-lt n pos)
 
 pub fewer-columns : (cols others : List ℕ) (j left : ℕ) → 0 < left → left ≤ 6
-    → ((k : ℕ) → k < 5 → getD others k 0 ≡ getD cols (skip j k) 0) → Columns left cols → Columns (left - 1) others
+    → TakenOut j cols others → Columns left cols → Columns (left - 1) others
 fewer-columns cols others j left some most h all k l =
     subst (λ (z : ℕ). z < 6) (sym (h k (omega arith)))
     (all (skip j k) (omega (arith, skip-lt j k (left - 1) l)))
 
 module _ (p : ℕ) where
-  open Ring (residues p) using (C, _⊕_, _⊗_, ⊖_, 𝟙)
+  open Ring (residues p) using (C)
 
   pub val-below : 0 < p → (x : C) {r : ℕ} → r ≡ val p x → r < p
   val-below pos x e = subst (λ (z : ℕ). z < p) (sym e) (val-lt p pos x)
@@ -120,35 +120,35 @@ module _ (p : ℕ) where
 
 -- the product q of an entry with its minor d, worked out from the columns without place j
 module _ (p : ℕ) (pos : 0 < p) (t cols others : List ℕ) (row j left : ℕ) (most : left ≤ 6)
-    (closed : (k : ℕ) → k < 5 → getD others k 0 ≡ getD cols (skip j k) 0)
+    (closed : TakenOut j cols others)
     (d q : ℕ) (hd : d ≡ val p (det (residues p) (left - 1) (part (cell p t) (row + 1) others)))
     (hq : q ≡ (getD t (row * 6 + getD cols j 0) 0 * d) % p) where
   open Ring (residues p) using (C, _⊕_, _⊗_, ⊖_, 𝟙)
 
   -- the term without its sign
-  x : C
-  x = part (cell p t) row cols zero j ⊗ det (residues p) (left - 1) (minor (residues p) (part (cell p t) row cols) j)
+  unsigned : C
+  unsigned = part (cell p t) row cols zero j ⊗ det (residues p) (left - 1) (minor (residues p) (part (cell p t) row cols) j)
 
-  product-x : res p q ≡ x
-  unfolding x part cell
-  product-x =
+  product-is : res p q ≡ unsigned
+  unfolding unsigned part cell
+  product-is =
       product-res p pos (getD t (row * 6 + getD cols j 0) 0) d hq
       ∙ ap₂ (λ (y z : C). y ⊗ z) (ap (λ (i : ℕ). res p (getD t (i * 6 + getD cols j 0) 0)) (sym (add-zero row)))
       (ap (res p) hd ∙ res-val p _ ∙ det-minor (residues p) (cell p t) row cols others j (left - 1) (omega arith) closed)
 
   pub term-even : j % 2 ≡ 0 → q ≡ val p (signed (residues p) (left - 1) (part (cell p t) row cols) j)
-  unfolding x signed
+  unfolding unsigned signed
   term-even even =
       sym (val-res-small (remainder-below p pos _ hq))
-      ∙ ap (val p) (product-x ∙ sym (one-⊗ (residues p) x) ∙ ap (λ (s : C). s ⊗ x) (sym (sign-even (residues p) j even)))
+      ∙ ap (val p) (product-is ∙ sym (one-⊗ (residues p) unsigned) ∙ ap (λ (s : C). s ⊗ unsigned) (sym (sign-even (residues p) j even)))
 
   pub term-odd : {r : ℕ} → (j % 2 ≡ 0 → ⊥) → r ≡ (0 + (p - q)) % p → r ≡ val p (signed (residues p) (left - 1) (part (cell p t) row cols) j)
-  unfolding x signed
+  unfolding unsigned signed
   term-odd odd hr =
       sym (val-res-small (remainder-below p pos _ hr))
       ∙ ap (val p) (difference-res p pos 0 q (le-of-lt (remainder-below p pos _ hq)) hr
-      ∙ ap₂ (λ (y z : C). y ⊕ (⊖ z)) (res-zero p) product-x
-      ∙ zero-⊕ (residues p) (⊖ x)
-      ∙ ap (λ (y : C). ⊖ y) (sym (one-⊗ (residues p) x))
-      ∙ sym (neg-⊗ (residues p) 𝟙 x)
-      ∙ ap (λ (s : C). s ⊗ x) (sym (sign-odd (residues p) j odd)))
+      ∙ ap₂ (λ (y z : C). y ⊕ (⊖ z)) (res-zero p) product-is
+      ∙ zero-⊕ (residues p) (⊖ unsigned)
+      ∙ ap (λ (y : C). ⊖ y) (sym (one-⊗ (residues p) unsigned))
+      ∙ sym (neg-⊗ (residues p) 𝟙 unsigned)
+      ∙ ap (λ (s : C). s ⊗ unsigned) (sym (sign-odd (residues p) j odd)))

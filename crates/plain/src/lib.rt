@@ -4,17 +4,17 @@ use field::add;
 use field::mul;
 use field::sub;
 ghost use mathlib.Core.Path.{_≡_};
-ghost use Prim.Native.Nat.{ℕ, _+_, _*_, _-_, _<_, _≤_};
-ghost use lib.ListN.{length, getD};
-ghost use Rattle.ring.specs.Det.{skip, det};
+ghost use Prim.Native.Nat.{ℕ, _+_, _-_, _<_, _≤_};
+ghost use lib.ListN.{length};
+ghost use Rattle.ring.specs.Det.{det};
 ghost use Rattle.residue.specs.Residue.{residues, res, val};
 ghost use Rattle.euclid.specs.Row.{declared, rowDeterminant};
-ghost use Rattle.plain.specs.Expansion.{cell, part, Columns, signed};
+ghost use Rattle.plain.specs.Expansion.{cell, part, Columns, TakenOut, signed};
 ghost use Rattle.plain.specs.Rows.{shiftedRow, rowMatrix};
 
 // The columns without the one at place j: those after it move one place down
 fn without(cols: [usize; 6], j: usize) -> [usize; 6]
-    ensures { λ r. ⌜ ((k : ℕ) → k < 5 → getD r k 0 ≡ getD cols (skip j k) 0) ⌝ }
+    ensures { λ r. ⌜ TakenOut j cols r ⌝ }
 {
     let mut out = cols;
     for k in j..5 {

@@ -1,10 +1,8 @@
 -- `plain::plain`: the table holds Sylvester's matrix, and its determinant in all its columns is the answer.
 use Prim.Native.Nat.{_+_, _-_, _≤_}
 use native.Mathlib.Omega.{arith}
-use mathlib.Core.Path.{ap, _∙_}
 use lib.ListN.{length}
 use borrow.Author.Needs.{needs}
-use Rattle.residue.specs.Residue.{val}
 use Rattle.euclid.specs.RowLaws.{declared-length}
 use Rattle.plain.proofs.Columns.{every-columns}
 use Rattle.plain.proofs.Entries.{table-determinant}
@@ -32,9 +30,7 @@ determinant-requires c κs =
 
 returns : tie.Need-returns
 returns c =
-    let args = c .before .before .before .before .before .args in
-    c .determinant .ensures
-    ∙ ap (val (args .p)) (table-determinant (args .p) (args .a .now) (args .b .now) (c .before .before .fill .result) (omega arith) (omega arith) (omega arith) (c .before .before .fill .ensures))
+    table-determinant _ _ _ (c .before .before .fill .result) (omega arith) (omega arith) (omega arith) (c .before .before .fill .ensures) (c .determinant .ensures)
 
 pub plain-spec : {M : Type 1} → statement M
 plain-spec =
