@@ -1,0 +1,5 @@
+-- Facts that the proofs of the functions cite, a file for each subject.
+pub mod Horner
+pub mod Stores
+pub mod Searches
+pub mod Rows
