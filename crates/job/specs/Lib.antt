@@ -7,3 +7,4 @@ pub mod SamePair
 pub mod TestLaws
 pub mod TableLaws
 pub mod OpenLaws
+pub mod StandingLaws
