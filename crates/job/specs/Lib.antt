@@ -9,3 +9,4 @@ pub mod SamePair
 pub mod TestLaws
 pub mod TableLaws
 pub mod OpenLaws
+pub mod StandingLaws
