@@ -10,3 +10,4 @@ pub mod TestLaws
 pub mod TableLaws
 pub mod OpenLaws
 pub mod StandingLaws
+pub mod Complete
