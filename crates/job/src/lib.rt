@@ -2,6 +2,7 @@
 
 // A record of whole numbers alone, so that every pattern of its bytes is a record: the calls check it.
 // The coefficient of x^i y^j of A stands at 17 i + j of `a`, and so for B.
+#[repr(C)]
 pub struct Job {
     pub p: u32,
     pub m: u32,
