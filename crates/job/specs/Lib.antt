@@ -8,3 +8,6 @@ pub mod TestLaws
 pub mod TableLaws
 pub mod OpenLaws
 pub mod StandingLaws
+pub mod SoundTests
+pub mod Replay
+pub mod SoundLaws
