@@ -7,9 +7,9 @@
 --   standing-different      the kept points are different numbers below p
 --   offer-kept, kept-offer  an offer answers 0 exactly for a good point while fewer than needed are kept
 --   offered-kept            then the point is stored; offered-else: after any other answer the job is as it was
---   stored-standing         a record that stands still stands when a kept point is stored;
---   offered-standing        after any offer; lotted-standing: after any lot
---   offered-pair            an offer leaves the pair as it is; lotted-pair: so does a lot
+--   stored-standing         a record that stands still stands when a kept point is stored
+--   offered-standing        and after any offer; lotted-standing: after any lot
+--   stored-pair             storing a point leaves the pair as it is; offered-pair, lotted-pair: so do an offer and a lot
 --   lotted-append           it does not matter how offers are grouped into lots; lotAnswers-append: nor for the answers
 use Prim.Native.Nat.{ℕ, _+_, _≤_, _<_}
 use native.Mathlib.Nat.{mul-le-mul}
@@ -64,8 +64,11 @@ standing-different j s = record { below = s .point-below; apart = s .point-apart
 module _ (j : Job) (a : ℕ) where
   pub offer-kept : offerNumber j a ≡ 0 → (pointNumber (pairOf j) (keptPoints j) a ≡ 0) × (j .count < needed (pairOf j))
   unfolding offerNumber
-  offer-kept h = let (point, rest) = then-zero (pointNumber (pairOf j) (keptPoints j) a) _ .0 h in (point, ltb-true (j .count) (needed (pairOf j)) (low (ltb (j .count) (needed (pairOf j))) (agrees j a) rest))
+  offer-kept h =
+      let (point, rest) = then-zero (pointNumber (pairOf j) (keptPoints j) a) _ .0 h in
+      (point, ltb-true (j .count) (needed (pairOf j)) (low (ltb (j .count) (needed (pairOf j))) (agrees j a) rest))
     where
+      -- a surplus point answers 1 or 13
       low : (t u : Bool) → _≡_ {A = ℕ} (cond t 0 (cond u 1 13)) 0 → t ≡ true
       low true u e = refl
       low false true e = absurd (omega arith)
