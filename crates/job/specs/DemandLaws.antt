@@ -16,18 +16,19 @@ use lib.Dec.{leb, ltb, eqb}
 use lib.ListN.{length, getD, take, drop, set}
 use lib.Seq.{take-suc-set}
 use borrow.Author.Tests.{ltb-true, ltb-false, lt-ltb, le-ltb, le-leb, lt-leb, eq-eqb, ne-eqb}
-use Rattle.scope.specs.Pair.{Pair, tables, coefficient}
+use Rattle.scope.specs.Pair.{Pair, tables, some, largest, coefficient}
+use Rattle.scope.specs.Answers.{onlyDone}
 use Rattle.scope.specs.Point.{tabulate, usable, needed, room}
 use Rattle.scope.specs.Usable.{and-true}
 use Rattle.scope.specs.Number.{among, pointNumber, lotNumber, readNumber, openNumber, _gives_otherwise_}
 use Rattle.job.specs.declared.Job.{Job}
 use Rattle.job.specs.Job.{pairOf, opened, keptPoints, stored}
-use Rattle.job.specs.Calls.{offerNumber, offered, lotted, reading, wanted, written}
+use Rattle.job.specs.Calls.{offerNumber, offered, lotted, reading, wanted, written, nonzero, degreeOf, isZero}
 use Rattle.job.specs.Sound.{sound?}
-use Rattle.job.specs.Public.{offerJob, lotAnswer, lotJob, readAnswer, readWanted, readOut, outAfter}
+use Rattle.job.specs.Public.{offerJob, lotAnswer, lotJob, readAnswer, readWanted, readDegree, readZero, readOut, outAfter, zeroFlag}
 use Rattle.job.specs.Demand.{Call, offer, lot, read, broken, after, run, pointsOf, allPoints, counts, counting, distinct, offeredCount}
 use Rattle.job.specs.Standing.{Standing}
-use Rattle.job.specs.SamePair.{SamePair, same-needed, same-room, same-usable, same-coefficient}
+use Rattle.job.specs.SamePair.{SamePair, same-bound, same-needed, same-room, same-usable, same-coefficient}
 use Rattle.job.specs.TestLaws.{pointNumber-zero}
 use Rattle.job.specs.OpenLaws.{opened-same, opened-standing}
 use Rattle.job.specs.StandingLaws.{offer-kept, kept-offer, offered-kept, offered-else, stored-pair, stored-standing, offered-standing, lotted-standing, offered-pair, lotted-pair, lotted-append, needed-fits}
@@ -167,11 +168,28 @@ written-same : (P Q : Pair) → SamePair P Q → written P ≡ written Q
 unfolding written
 written-same P Q w = ap (λ (n : ℕ). tabulate n (coefficient P)) (same-room P Q w) ∙ ap (tabulate (room Q)) (fun-ext (same-coefficient P Q w))
 
+nonzero-same : (P Q : Pair) → SamePair P Q → (k : ℕ) → nonzero P k ≡ nonzero Q k
+unfolding nonzero
+nonzero-same P Q w k = ap (λ (c : ℕ). not (eqb c 0)) (same-coefficient P Q w k)
+
+degreeOf-same : (P Q : Pair) → SamePair P Q → degreeOf P ≡ degreeOf Q
+unfolding degreeOf
+degreeOf-same P Q w = ap₂ largest (same-bound P Q w) (fun-ext (nonzero-same P Q w))
+
+zeroFlag-same : (P Q : Pair) → SamePair P Q → zeroFlag P ≡ zeroFlag Q
+unfolding zeroFlag isZero
+zeroFlag-same P Q w =
+    ap₂ (λ (d : ℕ) (o : ℕ → Bool). cond (not (some (d + 1) o)) 1 0) (same-bound P Q w) (fun-ext (nonzero-same P Q w))
+
 -- a read of a sound job with room, by the number of points kept
 module _ (j : Job) (s : Standing j) (out : List ℕ) (fits : room (pairOf j) ≤ length out) where
-  read-complete : j .count ≡ needed (pairOf j) → (readAnswer j out ≡ 0) × (readOut j out ≡ written (pairOf j) ++ drop (room (pairOf j)) out)
-  unfolding readOut outAfter
-  read-complete e = (answer, rw answer refl)
+  read-complete : j .count ≡ needed (pairOf j)
+      → (readAnswer j out ≡ 0)
+      × (readOut j out ≡ written (pairOf j) ++ drop (room (pairOf j)) out)
+      × (readDegree j out ≡ degreeOf (pairOf j))
+      × (readZero j out ≡ zeroFlag (pairOf j))
+  unfolding readOut outAfter readDegree readZero onlyDone
+  read-complete e = (answer, rw answer refl, rw answer refl, rw answer refl)
     where
       answer : readAnswer j out ≡ 0
       answer =
@@ -196,7 +214,10 @@ module _ (p m e n f : ℕ) (s t : List ℕ) (cs : List Call) where
   -- what a read of the job that the caller holds in the end answers and leaves behind
   pub record Outcome (out : List ℕ) : Type 0 where
     pub complete : needed polynomials ≤ offeredCount polynomials cs
-        → (readAnswer held out ≡ 0) × (readOut held out ≡ written polynomials ++ drop (room polynomials) out)
+        → (readAnswer held out ≡ 0)
+        × (readOut held out ≡ written polynomials ++ drop (room polynomials) out)
+        × (readDegree held out ≡ degreeOf polynomials)
+        × (readZero held out ≡ zeroFlag polynomials)
     pub early : offeredCount polynomials cs < needed polynomials
         → (readAnswer held out ≡ 14) × (readWanted held out ≡ needed polynomials - offeredCount polynomials cs) × (readOut held out ≡ out)
 
@@ -241,13 +262,18 @@ module _ (p m e n f : ℕ) (s t : List ℕ) (cs : List Call) where
         roomy = omega (arith, same-room (pairOf held) polynomials held-same)
 
         done : needed polynomials ≤ offeredCount polynomials cs
-            → (readAnswer held out ≡ 0) × (readOut held out ≡ written polynomials ++ drop (room polynomials) out)
+            → (readAnswer held out ≡ 0)
+            × (readOut held out ≡ written polynomials ++ drop (room polynomials) out)
+            × (readDegree held out ≡ degreeOf polynomials)
+            × (readZero held out ≡ zeroFlag polynomials)
         done l =
             let r = read-complete held held-standing out roomy (omega (arith, held-count, same-needed (pairOf held) polynomials held-same)) in (
               r .0,
               r .1
                   ∙ ap (λ (w : List ℕ). w ++ drop (room (pairOf held)) out) (written-same (pairOf held) polynomials held-same)
                   ∙ ap (λ (k : ℕ). written polynomials ++ drop k out) (same-room (pairOf held) polynomials held-same),
+              r .2 ∙ degreeOf-same (pairOf held) polynomials held-same,
+              r .3 ∙ zeroFlag-same (pairOf held) polynomials held-same,
             )
 
         waiting : offeredCount polynomials cs < needed polynomials

@@ -15,3 +15,4 @@ pub mod Replay
 pub mod SoundLaws
 pub mod Complete
 pub mod DemandLaws
+pub mod OneShot
