@@ -2,4 +2,6 @@
 pub mod Horner
 pub mod Stores
 pub mod Searches
+pub mod Linear
+pub mod Newton
 pub mod Rows

@@ -1,2 +1,3 @@
--- What the contracts of this crate cite, and laws that its callers may.
+-- What the contracts of this crate cite.
 pub mod Table
+pub mod Step
