@@ -2,4 +2,6 @@
 pub mod Row
 pub mod RowLaws
 pub mod Division
+pub mod DivisionLaws
+pub mod DivisionUnique
 pub mod Sequence

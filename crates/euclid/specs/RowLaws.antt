@@ -2,6 +2,8 @@
 --
 --   Below p r             every entry is below p
 --   Ended r               the last entry is not 0 (so the row is not empty)
+--   coef-out              past its end a row's coefficients are 𝟘
+--   row-path              rows of one length are equal where their coefficients are
 --   trim-coef             trimming keeps every entry
 --   trim-ended            a trimmed row is empty or ended
 --   ended-trim            an ended row is trimmed already
@@ -11,6 +13,7 @@ use mathlib.Core.List.{List, [], _∷_}
 use mathlib.Core.Path.{_≡_, refl, sym, ap, _∙_, subst}
 use mathlib.Core.Logic.{_≢_, _⊎_, inl, inr}
 use lib.ListN.{length, getD, List·getD-eq-default}
+use lib.Seq.{ext-getD}
 use Rattle.ring.specs.Ring.{Ring}
 use Rattle.residue.specs.Residue.{residues, res, val, val-res-small, val-𝟘, res-zero}
 use Rattle.euclid.specs.Row.{coef, joined, trim, declared, degree, lead}
@@ -42,6 +45,12 @@ coef-same p r s i j e = ap (res p) e
 pub coef-nonzero : (p : ℕ) (r : List ℕ) (j : ℕ) → getD r j 0 < p → getD r j 0 ≢ 0 → coef p r j ≢ Ring.𝟘 (residues p)
 unfolding coef
 coef-nonzero p r j h n e = n (sym (val-res-small h) ∙ ap (val p) e ∙ val-𝟘 p)
+
+-- rows of one length whose entries are residues are equal where their coefficients are
+pub row-path : (p : ℕ) (r s : List ℕ) → Below p r → Below p s → length r ≡ length s → ((j : ℕ) → j < length r → coef p r j ≡ coef p s j) → r ≡ s
+unfolding coef
+row-path p r s hr hs e same =
+    ext-getD 0 r s e (λ j l. sym (val-res-small (hr j)) ∙ ap (val p) (same j l) ∙ val-res-small (hs j))
 
 joined-getD : (x : ℕ) (r : List ℕ) (j : ℕ) → getD (joined x r) j 0 ≡ getD (x ∷ r) j 0
 unfolding joined
@@ -93,6 +102,16 @@ pub declared-length : (r : List ℕ) → 0 < length r → suc (declared r) ≡ l
 unfolding declared
 declared-length [] h = absurd (omega arith)
 declared-length (x ∷ r) h = refl
+
+pub declared-most : (r : List ℕ) → declared r ≤ length r
+unfolding declared
+declared-most [] = omega arith
+declared-most (x ∷ r) = omega arith
+
+pub declared-least : (r : List ℕ) → length r ≤ suc (declared r)
+unfolding declared
+declared-least [] = omega arith
+declared-least (x ∷ r) = omega arith
 
 -- of an ended row the true degree is the declared one, and the lead is the last entry
 pub ended-degree : (r : List ℕ) → Ended r → degree r ≡ declared r
