@@ -1,0 +1,80 @@
+// Rows modulo p: the multiply-and-subtract, division in the work row, which row divides, and the row resultant.
+ghost use mathlib.Core.Path.{_≡_};
+ghost use mathlib.Core.List.{_++_};
+ghost use Prim.Native.Nat.{_<_, _≤_};
+ghost use lib.ListN.{length, getD, take, drop};
+ghost use Rattle.residue.specs.Prime.{Prime};
+ghost use Rattle.residue.specs.Inverse;
+ghost use Rattle.euclid.specs.Row.{declared};
+ghost use Rattle.euclid.specs.RowLaws.{Below, Ended};
+ghost use Rattle.euclid.specs.Division.{less, remainder, quotient, count};
+
+// part[i] - q * b[i] for every i below d, each in its place
+pub fn subtract(p: u32, q: u32, d: usize, part: &mut [u32], b: &[u32])
+    requires { ⌜ d ≤ length (now part) ⌝ }
+    requires { ⌜ d ≤ length (now b) ⌝ }
+    requires { ⌜ q < p ⌝ }
+    requires { ⌜ Below p (now part) ⌝ }
+    requires { ⌜ Below p (now b) ⌝ }
+    ensures { λ _. ⌜ now (part .exit) ≡ less p q (take d (now (part .entry))) (take d (now (b .entry))) ++ drop d (now (part .entry)) ⌝ }
+{
+    for i in 0..d {
+        part[i] = field::mul_sub(p, part[i], q, b[i]);
+    }
+}
+
+// The inverse of a modulo p; there is nothing to look for where a is 1
+fn inverse(p: u32, a: u32) -> u32
+    requires { ⌜ 2 ≤ p ⌝ }
+    requires { ⌜ Prime p ⌝ }
+    requires { ⌜ 0 < a ⌝ }
+    requires { ⌜ a < p ⌝ }
+    ensures { λ r. ⌜ r ≡ Inverse.inverse p a ⌝ }
+{
+    if a == 1 {
+        return 1;
+    }
+    field::inverse(p, a)
+}
+
+// Division by b, whose last entry has the inverse f, from the top place of the quotient down
+fn reduce(p: u32, f: u32, row: &mut [u32], b: &[u32])
+    requires { ⌜ 0 < p ⌝ }
+    requires { ⌜ f ≡ Inverse.inverse p (getD (now b) (declared (now b)) 0) ⌝ }
+    requires { ⌜ 0 < length (now b) ⌝ }
+    requires { ⌜ length (now b) ≤ length (now row) ⌝ }
+    requires { ⌜ Below p (now row) ⌝ }
+    requires { ⌜ Below p (now b) ⌝ }
+    ensures { λ _. ⌜ now (row .exit) ≡ remainder p (now (row .entry)) (now (b .entry)) ++ quotient p (now (row .entry)) (now (b .entry)) ⌝ }
+{
+    let d = b.len() - 1;
+    let mut k = row.len() - d;
+    while k > 0 {
+        k = k - 1;
+        let q = field::mul(p, row[k + d], f);
+        subtract(p, q, d, &mut row[k..], b);
+        row[k + d] = q;
+    }
+}
+
+// Division in the work row: afterwards its first places hold the remainder and the others the quotient
+pub fn divide(p: u32, row: &mut [u32], b: &[u32]) -> u32
+    requires { ⌜ 2 ≤ p ⌝ }
+    requires { ⌜ Prime p ⌝ }
+    requires { ⌜ Ended (now b) ⌝ }
+    requires { ⌜ length (now row) ≤ 17 ⌝ }
+    requires { ⌜ length (now b) ≤ 17 ⌝ }
+    requires { ⌜ Below p (now row) ⌝ }
+    requires { ⌜ Below p (now b) ⌝ }
+    ensures { λ _. ⌜ now (row .exit) ≡ remainder p (now (row .entry)) (now (b .entry)) ++ quotient p (now (row .entry)) (now (b .entry)) ⌝ }
+    ensures { λ r. ⌜ r ≡ count (length (now (row .entry))) (declared (now (b .entry))) ⌝ }
+{
+    let d = b.len() - 1;
+    let l = row.len();
+    if l <= d {
+        return 0;
+    }
+    let f = inverse(p, b[d]);
+    reduce(p, f, row, b);
+    ((l - d) * d) as u32
+}
