@@ -5,9 +5,10 @@ ghost use Prim.Native.Nat.{_<_, _≤_};
 ghost use lib.ListN.{length, getD, take, drop};
 ghost use Rattle.residue.specs.Prime.{Prime};
 ghost use Rattle.residue.specs.Inverse;
-ghost use Rattle.euclid.specs.Row.{declared};
+ghost use Rattle.euclid.specs.Row.{declared, trim};
 ghost use Rattle.euclid.specs.RowLaws.{Below, Ended};
 ghost use Rattle.euclid.specs.Division.{less, remainder, quotient, count};
+ghost use Rattle.rows.specs.Which.{pick, first?, lower};
 
 // part[i] - q * b[i] for every i below d, each in its place
 pub fn subtract(p: u32, q: u32, d: usize, part: &mut [u32], b: &[u32])
@@ -77,4 +78,31 @@ pub fn divide(p: u32, row: &mut [u32], b: &[u32]) -> u32
     let f = inverse(p, b[d]);
     reduce(p, f, row, b);
     ((l - d) * d) as u32
+}
+
+// How many entries are left when the zeros at the end are cut off
+fn true_length(r: &[u32]) -> usize
+    ensures { λ k. ⌜ k ≡ length (trim (now (r .entry))) ⌝ }
+{
+    let mut k = r.len();
+    while k > 0 {
+        if r[k - 1] != 0 {
+            return k;
+        }
+        k = k - 1;
+    }
+    k
+}
+
+// Which row divides: that stretch of the caller's own slice
+pub fn divisor<'a>(a: &'a [u32], b: &'a [u32]) -> &'a [u32]
+    ensures { λ r. ⌜ now r ≡ lower (now (a .entry)) (now (b .entry)) ⌝ }
+    ensures { λ r. ⌜ r .ptr ≡ pick (first? (now (a .entry)) (now (b .entry))) (a .entry .ptr) (b .entry .ptr) ⌝ }
+{
+    let m = true_length(a);
+    let n = true_length(b);
+    if m < n {
+        return &a[..m];
+    }
+    &b[..n]
 }

@@ -1,0 +1,2 @@
+-- What the row calls answer.
+pub mod Which
