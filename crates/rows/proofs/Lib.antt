@@ -1,5 +1,7 @@
 -- Facts on lists and rows that the proofs of the functions cite, a file for each subject.
 pub mod Bounds
+pub mod Monic
 pub mod Places
+pub mod Scaled
 pub mod Trim
 pub mod Work

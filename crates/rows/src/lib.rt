@@ -1,13 +1,14 @@
 // Rows modulo p: the multiply-and-subtract, division in the work row, which row divides, and the row resultant.
 ghost use mathlib.Core.Path.{_≡_};
-ghost use mathlib.Core.List.{_++_};
-ghost use Prim.Native.Nat.{_<_, _≤_};
+ghost use mathlib.Core.List.{_++_, map};
+ghost use Prim.Native.Nat.{ℕ, _*_, _%_, _<_, _≤_};
 ghost use lib.ListN.{length, getD, take, drop};
 ghost use Rattle.residue.specs.Prime.{Prime};
 ghost use Rattle.residue.specs.Inverse;
 ghost use Rattle.euclid.specs.Row.{declared, trim};
 ghost use Rattle.euclid.specs.RowLaws.{Below, Ended};
 ghost use Rattle.euclid.specs.Division.{less, remainder, quotient, count};
+ghost use Rattle.euclid.specs.Sequence.{monic};
 ghost use Rattle.rows.specs.Which.{pick, first?, lower};
 
 // part[i] - q * b[i] for every i below d, each in its place
@@ -105,4 +106,29 @@ pub fn divisor<'a>(a: &'a [u32], b: &'a [u32]) -> &'a [u32]
         return &a[..m];
     }
     &b[..n]
+}
+
+// Every entry times f
+fn scale(p: u32, f: u32, r: &mut [u32])
+    requires { ⌜ 0 < p ⌝ }
+    ensures { λ _. ⌜ now (r .exit) ≡ map (λ (x : ℕ). x * f % p) (now (r .entry)) ⌝ }
+{
+    for i in 0..r.len() {
+        r[i] = field::mul(p, r[i], f);
+    }
+}
+
+// The row divided by its last entry; there is nothing to do where that is 1
+pub fn make_monic(p: u32, r: &mut [u32])
+    requires { ⌜ 2 ≤ p ⌝ }
+    requires { ⌜ Prime p ⌝ }
+    requires { ⌜ Ended (now r) ⌝ }
+    requires { ⌜ Below p (now r) ⌝ }
+    ensures { λ _. ⌜ now (r .exit) ≡ monic p (now (r .entry)) ⌝ }
+{
+    let last = r[r.len() - 1];
+    if last != 1 {
+        let f = field::inverse(p, last);
+        scale(p, f, r);
+    }
 }
