@@ -50,7 +50,7 @@ module _ (p : ℕ) (pos : 0 < p) where
   open Ring (residues p) using (C, _⊕_, _⊗_, ⊖_, ⊕-zero)
 
   -- x less q y, as residues
-  less-entry : (q x y : ℕ) → res p ((x + (p - q * y % p)) % p) ≡ res p x ⊕ (⊖ (res p q ⊗ res p y))
+  pub less-entry : (q x y : ℕ) → res p ((x + (p - q * y % p)) % p) ≡ res p x ⊕ (⊖ (res p q ⊗ res p y))
   less-entry q x y =
       res-mod p pos (x + (p - q * y % p))
       ∙ res-sub p x (le-of-lt (mod-lt (q * y) pos))

@@ -5,3 +5,7 @@ pub mod Division
 pub mod DivisionLaws
 pub mod DivisionUnique
 pub mod Sequence
+pub mod MonicLaws
+pub mod FollowingLaws
+pub mod SequenceLaws
+pub mod StepsLaws

@@ -4,13 +4,18 @@
 --   Ended r               the last entry is not 0 (so the row is not empty)
 --   coef-out              past its end a row's coefficients are 𝟘
 --   row-path              rows of one length are equal where their coefficients are
---   trim-coef             trimming keeps every entry
+--   trim-coef             trimming keeps every coefficient; trim-getD: every entry
+--   trim-length           a trimmed row is no longer; trim-below: its entries are residues where they were
 --   trim-ended            a trimmed row is empty or ended
 --   ended-trim            an ended row is trimmed already
-use Prim.Native.Nat.{ℕ, zero, suc, pred, _+_, _<_, _≤_}
+--   declared-length       the length of a row that is not empty is one more than its declared degree
+--   declared-same         rows of one length have one declared degree
+--   declared-most, declared-least   the declared degree against the length of any row
+--   ended-degree, ended-lead        true degree and lead of an ended row
+use Prim.Native.Nat.{ℕ, zero, suc, _<_, _≤_}
 use native.Mathlib.Omega.{arith}
 use mathlib.Core.List.{List, [], _∷_}
-use mathlib.Core.Path.{_≡_, refl, sym, ap, _∙_, subst}
+use mathlib.Core.Path.{_≡_, refl, sym, ap, _∙_}
 use mathlib.Core.Logic.{_≢_, _⊎_, inl, inr}
 use lib.ListN.{length, getD, List·getD-eq-default}
 use lib.Seq.{ext-getD}
@@ -68,6 +73,9 @@ trim-getD (x ∷ r) (suc j) = joined-getD x (trim r) (suc j) ∙ trim-getD r j
 pub trim-coef : (p : ℕ) (r : List ℕ) (j : ℕ) → coef p (trim r) j ≡ coef p r j
 trim-coef p r j = coef-same p (trim r) r j j (trim-getD r j)
 
+pub trim-below : (p : ℕ) (r : List ℕ) → Below p r → Below p (trim r)
+trim-below p r h j = rw (trim-getD r j) (h j)
+
 joined-length : (x : ℕ) (r : List ℕ) → length (joined x r) ≤ suc (length r)
 unfolding joined
 joined-length zero [] = omega arith
@@ -102,6 +110,13 @@ pub declared-length : (r : List ℕ) → 0 < length r → suc (declared r) ≡ l
 unfolding declared
 declared-length [] h = absurd (omega arith)
 declared-length (x ∷ r) h = refl
+
+pub declared-same : (r s : List ℕ) → length r ≡ length s → declared r ≡ declared s
+unfolding declared
+declared-same [] [] e = refl
+declared-same [] (y ∷ s) e = absurd (omega arith)
+declared-same (x ∷ r) [] e = absurd (omega arith)
+declared-same (x ∷ r) (y ∷ s) e = omega arith
 
 pub declared-most : (r : List ℕ) → declared r ≤ length r
 unfolding declared

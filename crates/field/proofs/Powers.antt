@@ -1,19 +1,19 @@
 -- Powers by squaring.
 --
 --   pow-even, pow-odd     x^n from a power of x*x, by the last binary digit of n
---   res-product           the remainder of a product stands for the product of residues
 --   Raised p x r b k      r is below p, and r * b^k is the power x modulo p
 --   raised-first          1 * a^n is a^n
 --   raised-even           b^k is (b*b)^(k/2) for an even k
 --   raised-odd            r * b^k is (r*b) * (b*b)^(k/2) for an odd k
 --   raised-last           with no factor left, r is the power
-use Prim.Native.Nat.{ℕ, suc, _+_, _*_, _%_, _/_, _≤_, _<_}
+use Prim.Native.Nat.{ℕ, suc, _*_, _%_, _/_, _≤_, _<_}
 use native.Mathlib.Nat.{mod-lt}
 use native.Mathlib.Omega.{arith}
-use mathlib.Core.Path.{_≡_, refl, sym, ap, _∙_}
+use mathlib.Core.Path.{_≡_, sym, ap, _∙_}
 use Rattle.ring.specs.Ring.{Ring, pow}
 use Rattle.ring.specs.RingLaws.{pow-mul, one-⊗}
-use Rattle.residue.specs.Residue.{residues, res, res-*, res-one, res-mod}
+use Rattle.residue.specs.Computed.{product-res}
+use Rattle.residue.specs.Residue.{residues, res, res-one}
 
 module _ (R : Ring) where
   open Ring R using (C, _⊗_, ⊗-one)
@@ -36,9 +36,6 @@ module _ (R : Ring) where
 module _ (p : ℕ) where
   open Ring (residues p) using (C, _⊗_, ⊗-one, ⊗-assoc)
 
-  pub res-product : 0 < p → (a b : ℕ) {r : ℕ} → r ≡ (a * b) % p → res p r ≡ res p a ⊗ res p b
-  res-product pos a b e = ap (res p) e ∙ res-mod p pos (a * b) ∙ res-* p a b
-
   pub record Raised (x : C) (r base left : ℕ) : Type 0 where
     pub below : r < p
     pub same : res p r ⊗ pow (residues p) (res p base) left ≡ x
@@ -51,7 +48,7 @@ module _ (p : ℕ) where
     pos = omega arith
 
     square : pow (residues p) (res p squared) (left / 2) ≡ pow (residues p) (res p base ⊗ res p base) (left / 2)
-    square = ap (λ (t : C). pow (residues p) t (left / 2)) (res-product pos base base e)
+    square = ap (λ (t : C). pow (residues p) t (left / 2)) (product-res p pos base base e)
 
     pub raised-even : left % 2 ≡ 0 → Raised x r squared (left / 2)
     raised-even even = record { below = h .below; same = ap (λ (t : C). res p r ⊗ t) (square ∙ sym (pow-even (residues p) (res p base) left even)) ∙ h .same }
@@ -61,7 +58,7 @@ module _ (p : ℕ) where
         record {
           below = omega (arith, mod-lt (r * base) pos);
           same =
-              ap (λ (t : C). t ⊗ pow (residues p) (res p squared) (left / 2)) (res-product pos r base f)
+              ap (λ (t : C). t ⊗ pow (residues p) (res p squared) (left / 2)) (product-res p pos r base f)
               ∙ ⊗-assoc (res p r) (res p base) (pow (residues p) (res p squared) (left / 2))
               ∙ ap (λ (t : C). res p r ⊗ t) (ap (λ (t : C). res p base ⊗ t) square ∙ sym (pow-odd (residues p) (res p base) left odd))
               ∙ h .same;

@@ -6,7 +6,7 @@
 --   tried-all       p is prime once d * d passes it
 --   tried-room      while d * d has not passed p, there is room below p for 3d
 --   divided         with a divisor found, the answer false is right
-use Prim.Native.Nat.{ℕ, _+_, _*_, _%_, _/_, _≤_, _<_}
+use Prim.Native.Nat.{ℕ, _+_, _*_, _%_, _≤_, _<_}
 use native.Mathlib.Nat.{le-refl, le-trans, mul-le-mul, mul-le-mul-right, mod-eq-zero-of-dvd, dvd-of-mod-eq-zero, dvd-trans}
 use native.Mathlib.Decide.{decLt, ℕ-discrete}
 use native.Mathlib.Omega.{arith}

@@ -1,4 +1,5 @@
-// Arithmetic modulo p on numbers of 32 bits. Every result is the remainder itself, below p.
+// Arithmetic modulo p on numbers of 32 bits. Every number returned is the remainder itself, below p; what its residue
+// is stands in residue's specs/Computed.antt.
 // Nothing here asks that p stay below 2^31: each function takes every p that its contract admits.
 ghost use mathlib.Core.Path.{_≡_};
 ghost use mathlib.Core.Logic.{_↔_};
@@ -9,7 +10,7 @@ ghost use Rattle.residue.specs.Prime.{Prime};
 ghost use Rattle.residue.specs.Residue.{residues, res};
 ghost use Rattle.residue.specs.Inverse;
 
-// a + b modulo p, with no sum above p
+// a + b modulo p: the sum is made only where it stays below p
 pub fn add(p: u32, a: u32, b: u32) -> u32
     requires { ⌜ a < p ⌝ }
     requires { ⌜ b < p ⌝ }
@@ -47,10 +48,9 @@ pub fn mul_sub(p: u32, c: u32, q: u32, b: u32) -> u32
     ((minus * (q as u64) + (c as u64)) % (p as u64)) as u32
 }
 
-// a to the power n modulo p, by squaring
+// a to the power n modulo p, by squaring, for any a
 pub fn power(p: u32, a: u32, n: u32) -> u32
     requires { ⌜ 2 ≤ p ⌝ }
-    requires { ⌜ a < p ⌝ }
     ensures { λ r. ⌜ (r < p) × (res p r ≡ pow (residues p) (res p a) n) ⌝ }
 {
     let mut r: u32 = 1;
@@ -69,7 +69,6 @@ pub fn power(p: u32, a: u32, n: u32) -> u32
 // The inverse of a modulo a prime, by Euclid's algorithm on p and a. Of each remainder r the magnitude t with
 // r = t * a or r = -t * a modulo p is kept; the signs alternate.
 pub fn inverse(p: u32, a: u32) -> u32
-    requires { ⌜ 2 ≤ p ⌝ }
     requires { ⌜ Prime p ⌝ }
     requires { ⌜ 0 < a ⌝ }
     requires { ⌜ a < p ⌝ }

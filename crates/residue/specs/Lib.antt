@@ -3,3 +3,4 @@ pub mod Prime
 pub mod Remainder
 pub mod Residue
 pub mod Inverse
+pub mod Computed

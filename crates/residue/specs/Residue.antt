@@ -14,6 +14,7 @@ use native.Mathlib.Decide.{ℕ-discrete}
 use native.Mathlib.Nat.{add-assoc, add-comm, add-zero, add-sub-of-le, mul-assoc, mul-comm, mul-one, mul-add, mod-lt, mod-mod, mod-self, mod-eq-of-lt, mod-add-mod, add-mod-mod, add-mod, zero-lt-suc, zero-mod, le-of-lt, sub-add-cancel}
 use native.Mathlib.Omega.{arith}
 use mathlib.Core.HLevel.{Σ-prop-path}
+use mathlib.Core.Logic.{_≢_}
 use mathlib.Core.Path.{_≡_, refl, sym, ap, _∙_}
 use Rattle.ring.specs.Ring.{Ring}
 use Rattle.ring.specs.RingLaws.{neg-unique}
@@ -196,6 +197,13 @@ module _ (p : ℕ) (pos : 0 < p) where
 
 pub val-res-small : {p n : ℕ} → n < p → val p (res p n) ≡ n
 val-res-small {p} {n} h = val-res p (omega arith) n ∙ mod-eq-of-lt h
+
+-- numbers below p are told apart by their residues
+pub res-inj : {p a b : ℕ} → a < p → b < p → res p a ≡ res p b → a ≡ b
+res-inj {p} ha hb e = sym (val-res-small ha) ∙ ap (val p) e ∙ val-res-small hb
+
+pub res-nonzero : {p a : ℕ} → 0 < a → a < p → res p a ≢ Ring.𝟘 (residues p)
+res-nonzero {p} {a} pos less e = let none : a ≡ 0 = res-inj less (omega arith) (e ∙ sym (res-zero p)) in omega arith
 
 pub val-𝟙 : (p : ℕ) → 1 < p → val p (Ring.𝟙 (residues p)) ≡ 1
 val-𝟙 p h = ap (val p) (sym (res-one p)) ∙ val-res-small h

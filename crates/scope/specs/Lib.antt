@@ -3,4 +3,7 @@ pub mod Pair
 pub mod Point
 pub mod Number
 pub mod Figures
+pub mod Search
 pub mod Evaluation
+pub mod Degree
+pub mod Recovery

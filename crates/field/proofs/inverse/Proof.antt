@@ -1,9 +1,9 @@
 -- `field::inverse`: each turn goes on to the next pair of remainders; a prime p leaves no remainder 0 before 1.
-use Prim.Native.Nat.{_+_, _*_, _-_, _/_, _≤_, _<_}
-use native.Mathlib.Nat.{div-mul-le-self, add-sub-of-le, mod-lt, mod-eq-sub-div-mul}
+use Prim.Native.Nat.{_+_, _*_, _-_, _/_}
+use native.Mathlib.Nat.{div-mul-le-self}
 use native.Mathlib.Omega.{arith}
-use mathlib.Core.Bool.{Bool, not}
-use mathlib.Core.Path.{subst}
+use mathlib.Core.Bool.{not}
+use mathlib.Core.Path.{}
 use Rattle.field.proofs.Euclid.{Chain, chain-first, chain-bounds, chain-next, chain-plus, chain-minus}
 use Rattle.field.proofs.inverse.Statement.{statement}
 use Rattle.field.proofs.inverse.Tie as tie
@@ -16,7 +16,7 @@ abbrev μ-loop : tie.MeasureT-loop
 
 -- the pair after one turn
 next : (c : tie.In-loop Inv-loop μ-loop) → Chain (c .before .before .args .p) (c .before .before .args .a) (not (c .before .loop .minus)) (c .before .loop .r1) (c .before .loop .r0 - c .before .loop .r0 / c .before .loop .r1 * c .before .loop .r1) (c .before .loop .t1) (c .before .loop .r0 / c .before .loop .r1 * c .before .loop .t1 + c .before .loop .t0)
-next c = chain-next _ _ (c .before .loop .inv) (c .before .before .pre .1 .0) (omega arith)
+next c = chain-next _ _ (c .before .loop .inv) (c .before .before .pre .0) (omega arith)
 
 loop-holds : tie.Need-loop-holds Inv-loop μ-loop
 loop-holds c = chain-first (c .args .p) (c .args .a) (omega arith) (omega arith)
