@@ -25,20 +25,6 @@ pub fn subtract(p: u32, q: u32, d: usize, part: &mut [u32], b: &[u32])
     }
 }
 
-// The inverse of a modulo p; there is nothing to look for where a is 1
-fn inverse(p: u32, a: u32) -> u32
-    requires { ⌜ 2 ≤ p ⌝ }
-    requires { ⌜ Prime p ⌝ }
-    requires { ⌜ 0 < a ⌝ }
-    requires { ⌜ a < p ⌝ }
-    ensures { λ r. ⌜ r ≡ Inverse.inverse p a ⌝ }
-{
-    if a == 1 {
-        return 1;
-    }
-    field::inverse(p, a)
-}
-
 // Division by b, whose last entry has the inverse f, from the top place of the quotient down
 fn reduce(p: u32, f: u32, row: &mut [u32], b: &[u32])
     requires { ⌜ 0 < p ⌝ }
@@ -61,7 +47,6 @@ fn reduce(p: u32, f: u32, row: &mut [u32], b: &[u32])
 
 // Division in the work row: afterwards its first places hold the remainder and the others the quotient
 pub fn divide(p: u32, row: &mut [u32], b: &[u32]) -> u32
-    requires { ⌜ 2 ≤ p ⌝ }
     requires { ⌜ Prime p ⌝ }
     requires { ⌜ Ended (now b) ⌝ }
     requires { ⌜ length (now row) ≤ 17 ⌝ }
@@ -76,7 +61,7 @@ pub fn divide(p: u32, row: &mut [u32], b: &[u32]) -> u32
     if l <= d {
         return 0;
     }
-    let f = inverse(p, b[d]);
+    let f = field::inverse(p, b[d]);
     reduce(p, f, row, b);
     ((l - d) * d) as u32
 }
@@ -120,7 +105,6 @@ fn scale(p: u32, f: u32, r: &mut [u32])
 
 // The row divided by its last entry; there is nothing to do where that is 1
 pub fn make_monic(p: u32, r: &mut [u32])
-    requires { ⌜ 2 ≤ p ⌝ }
     requires { ⌜ Prime p ⌝ }
     requires { ⌜ Ended (now r) ⌝ }
     requires { ⌜ Below p (now r) ⌝ }

@@ -1,4 +1,4 @@
-use Prim.Native.Nat.{ℕ, _-_}
+use Prim.Native.Nat.{ℕ, _-_, _<_}
 use mathlib.Core.Path.{ap, _∙_}
 use lib.ListN.{length, getD}
 use Rattle.residue.specs.Inverse.{inverse}
@@ -26,13 +26,14 @@ shared-slice-read-inverse c = search needs
 inverse-requires : tie.Need-inverse-requires
 inverse-requires c κs =
     let start = c .before .before .before .before in
-    (start .pre .0, (start .pre .1 .0, (last-some (start .args .b .now) (start .pre .1 .1 .0), start .pre .1 .1 .1 .1 .1 .1 (length (start .args .b .now) - 1))))
+    (start .pre .0, (last-some (start .args .b .now) (start .pre .1 .0), start .pre .1 .1 .1 .1 .1 (length (start .args .b .now) - 1)))
 
 reduce-requires : tie.Need-reduce-requires
 reduce-requires c κs =
     let start = c .before .before .before .before .before .before in
     let b = start .args .b .now in
-    (omega arith, (c .before .inverse .ensures ∙ ap (λ (n : ℕ). inverse (start .args .p) (getD b n 0)) (declared-minus b), (omega arith, (omega arith, (start .pre .1 .1 .1 .1 .1 .0, start .pre .1 .1 .1 .1 .1 .1)))))
+    let pos : 0 < start .args .p = omega (arith, start .pre .1 .1 .1 .1 .1 0) in
+    (pos, (c .before .inverse .ensures ∙ ap (λ (n : ℕ). inverse (start .args .p) (getD b n 0)) (declared-minus b), (omega arith, (omega arith, (start .pre .1 .1 .1 .1 .0, start .pre .1 .1 .1 .1 .1)))))
 
 sub-result : tie.Need-sub-result
 sub-result c = search needs
