@@ -1,7 +1,9 @@
 -- Facts on lists and rows that the proofs of the functions cite, a file for each subject.
 pub mod Bounds
+pub mod Chain
 pub mod Monic
 pub mod Places
 pub mod Scaled
 pub mod Trim
+pub mod Value
 pub mod Work

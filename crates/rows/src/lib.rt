@@ -3,12 +3,15 @@ ghost use mathlib.Core.Path.{_≡_};
 ghost use mathlib.Core.List.{_++_, map};
 ghost use Prim.Native.Nat.{ℕ, _*_, _%_, _<_, _≤_};
 ghost use lib.ListN.{length, getD, take, drop};
+ghost use Rattle.ring.specs.Ring.{Ring, pow, sign};
 ghost use Rattle.residue.specs.Prime.{Prime};
+ghost use Rattle.residue.specs.Residue.{residues, res, val};
 ghost use Rattle.residue.specs.Inverse;
 ghost use Rattle.euclid.specs.Row.{declared, trim};
 ghost use Rattle.euclid.specs.RowLaws.{Below, Ended};
 ghost use Rattle.euclid.specs.Division.{less, remainder, quotient, count};
 ghost use Rattle.euclid.specs.Sequence.{monic};
+ghost use Rattle.euclid.specs.FollowingLaws.{Neighbours, next};
 ghost use Rattle.rows.specs.Which.{pick, first?, lower};
 
 // part[i] - q * b[i] for every i below d, each in its place
@@ -114,5 +117,52 @@ pub fn make_monic(p: u32, r: &mut [u32])
     if last != 1 {
         let f = field::inverse(p, last);
         scale(p, f, r);
+    }
+}
+
+// (-1)^n x
+fn signed(p: u32, n: usize, x: u32) -> u32
+    requires { ⌜ x < p ⌝ }
+    ensures { λ r. ⌜ (r < p) × (res p r ≡ Ring._⊗_ (residues p) (sign (residues p) n) (res p x)) ⌝ }
+{
+    if n % 2 == 1 { field::sub(p, 0, x) } else { x }
+}
+
+// What one division of a row of degree m by one of degree n makes of the value x of the rest: lead^m (-1)^(mn) x
+fn turn(p: u32, lead: u32, m: usize, n: usize, x: u32) -> u32
+    requires { ⌜ 2 ≤ p ⌝ }
+    requires { ⌜ x < p ⌝ }
+    requires { ⌜ m ≤ 16 ⌝ }
+    requires { ⌜ n ≤ 16 ⌝ }
+    ensures { λ r. ⌜ r ≡ val p (Ring._⊗_ (residues p) (pow (residues p) (res p lead) m) (Ring._⊗_ (residues p) (sign (residues p) (m * n)) (res p x))) ⌝ }
+{
+    let high = field::power(p, lead, m as u32);
+    field::mul(p, high, signed(p, m * n, x))
+}
+
+// What a division leaves: its steps, and how long the remainder is when it is trimmed
+struct Cut {
+    steps: u32,
+    len: usize,
+}
+
+// One division of the sequence: r is made monic, and before divided by it in place
+fn divided(p: u32, before: &mut [u32], r: &mut [u32]) -> Cut
+    requires { ⌜ 2 ≤ p ⌝ }
+    requires { ⌜ Prime p ⌝ }
+    requires { ⌜ Neighbours p (now before) (now r) ⌝ }
+    requires { ⌜ length (now before) ≤ 17 ⌝ }
+    ensures { λ _. ⌜ now (r .exit) ≡ monic p (now (r .entry)) ⌝ }
+    ensures { λ _. ⌜ now (before .exit) ≡ remainder p (now (before .entry)) (monic p (now (r .entry))) ++ quotient p (now (before .entry)) (monic p (now (r .entry))) ⌝ }
+    ensures { λ c. ⌜ c .steps ≡ count (length (now (before .entry))) (declared (now (r .entry))) ⌝ }
+    ensures { λ c. ⌜ c .len ≡ length (next p (now (before .entry)) (now (r .entry))) ⌝ }
+{
+    let n = r.len() - 1;
+    make_monic(p, r);
+    let steps = divide(p, before, r);
+    let rest = divisor(&before[..n], r);
+    Cut {
+        steps,
+        len: rest.len(),
     }
 }
