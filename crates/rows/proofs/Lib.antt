@@ -5,5 +5,6 @@ pub mod Monic
 pub mod Places
 pub mod Scaled
 pub mod Trim
+pub mod Turns
 pub mod Value
 pub mod Work
