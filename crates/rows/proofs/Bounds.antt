@@ -4,12 +4,13 @@
 --   last-some         the last entry of an ended row is above 0
 --   count-code        the steps of a division, as the code counts them
 --   count-none        a row no longer than the divisor's degree takes none
+--   count-constant    nor does a division by a constant
 --   count-most        rows of at most 17 entries take at most 289
 --   below-append      two such rows, one after the other
 --   below-take        the first places of one
 --   below-drop        its other places
 use Prim.Native.Nat.{ℕ, zero, suc, _+_, _-_, _*_, _<_, _≤_}
-use native.Mathlib.Nat.{mul-le-mul, pos-of-ne-zero, zero-mul}
+use native.Mathlib.Nat.{mul-le-mul, pos-of-ne-zero, zero-mul, mul-zero}
 use native.Mathlib.Omega.{arith}
 use mathlib.Core.List.{List, [], _∷_, _++_}
 use mathlib.Core.Path.{_≡_, refl, sym, ap, _∙_}
@@ -34,6 +35,10 @@ count-code l b = rw (declared-minus b) refl
 pub count-none : (l d : ℕ) → l ≤ d → 0 ≡ count l d
 unfolding count
 count-none l d h = let e : 0 ≡ l - d = omega arith in sym (zero-mul d) ∙ ap (λ (n : ℕ). n * d) e
+
+pub count-constant : (l : ℕ) {d : ℕ} → d ≡ 0 → 0 ≡ count l d
+unfolding count
+count-constant l {d} e = sym (ap (λ (n : ℕ). (l - d) * n) e ∙ mul-zero (l - d))
 
 pub count-most : {l d : ℕ} → l ≤ 17 → d ≤ 17 → (l - d) * d ≤ 289
 count-most {l} {d} hl hd = mul-le-mul {n₁ = l - d} {m₁ = d} {n₂ = 17} {m₂ = 17} (omega arith) hd

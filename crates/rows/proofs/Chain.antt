@@ -2,13 +2,16 @@
 --
 --   order-length        of neighbours the second is no longer than the first
 --   monic-divides       the monic row is ended, of residues, and as long as the row
+--   next-fits, next-front    the next row is the front of the work row
+--   next-more           it goes on with the sequence where it is not empty
 --   rest-is             the work row's first places, trimmed, are the next row
-use Prim.Native.Nat.{ℕ, zero, suc, _+_, _*_, _-_, _<_, _≤_}
+use Prim.Native.Nat.{ℕ, _-_, _<_, _≤_}
 use native.Mathlib.Omega.{arith}
-use mathlib.Core.List.{List, [], _∷_, _++_, map}
+use mathlib.Core.List.{List, [], _++_}
+use mathlib.Core.Logic.{_⊎_, inl, inr}
 use mathlib.Core.Path.{_≡_, refl, sym, ap, subst, _∙_}
-use lib.ListN.{length, getD, take}
-use lib.Seq.{take-at}
+use lib.ListN.{length, take, length-append}
+use lib.Seq.{take-at, take-append-le}
 use Rattle.residue.specs.Prime.{Prime}
 use Rattle.euclid.specs.Row.{trim, declared}
 use Rattle.euclid.specs.RowLaws.{Below, Ended, trim-length, declared-length, ended-trim}
@@ -16,9 +19,10 @@ use Rattle.euclid.specs.Division.{remainder, quotient}
 use Rattle.euclid.specs.DivisionLaws.{remainder-length}
 use Rattle.euclid.specs.Sequence.{monic}
 use Rattle.euclid.specs.MonicLaws.{monic-length, monic-declared, monic-below, monic-ended}
-use Rattle.euclid.specs.FollowingLaws.{Neighbours, next}
+use Rattle.euclid.specs.FollowingLaws.{Neighbours, next, next-neighbours}
 use Rattle.rows.specs.Which.{lower, lower-first}
 use Rattle.rows.proofs.Bounds.{declared-minus}
+use Rattle.rows.proofs.Trim.{trim-front}
 
 pub order-length : {p : ℕ} (a b : List ℕ) → Neighbours p a b → length b ≤ length a
 order-length a b n = omega (arith, n .order, n .first-ended .0, declared-minus a, declared-minus b)
@@ -54,3 +58,26 @@ module _ (p : ℕ) (two : 2 ≤ p) (prime : Prime p) (a b : List ℕ) (n : Neigh
 
       front : take (length b - 1) row ≡ r
       front = ap (take (length b - 1)) is ∙ take-at r (quotient p a d) (length b - 1) long
+
+module _ (p : ℕ) (a b : List ℕ) {row : List ℕ} {k : ℕ} (is : row ≡ remainder p a (monic p b) ++ quotient p a (monic p b))
+    (long : k ≡ length (next p a b)) where
+  r : List ℕ
+  r = remainder p a (monic p b)
+
+  pub next-fits : k ≤ length row
+  unfolding r
+  next-fits = omega (arith, trim-length r, ap length is, length-append r (quotient p a (monic p b)))
+
+  pub next-front : take k row ≡ next p a b
+  unfolding r
+  next-front =
+      ap (take k) is ∙ take-append-le k r (quotient p a (monic p b)) (omega (arith, trim-length r)) ∙ trim-front r long
+
+pub next-more : (p : ℕ) → 2 ≤ p → Prime p → (a b : List ℕ) → Neighbours p a b → 0 < length (next p a b)
+    → Neighbours p (monic p b) (next p a b) × (length (next p a b) < length b)
+next-more p two prime a b n some = by-next (next-neighbours p two prime a b n)
+  where
+    by-next : (next p a b ≡ []) ⊎ (Neighbours p (monic p b) (next p a b) × (declared (next p a b) < declared b))
+        → Neighbours p (monic p b) (next p a b) × (length (next p a b) < length b)
+    by-next (inl e) = absurd (omega (arith, ap length e))
+    by-next (inr h) = (h .0, omega (arith, h .1, declared-minus (next p a b), declared-minus b))

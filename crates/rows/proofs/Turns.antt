@@ -7,7 +7,7 @@
 --   ran-more              the answer from that of b made monic and the next row
 use Prim.Native.Nat.{ℕ, zero, suc, _+_, _*_, _-_, _<_, _≤_, min}
 use native.Mathlib.Omega.{arith}
-use native.Mathlib.Nat.{add-zero}
+use native.Mathlib.Nat.{add-zero, mul-le-mul}
 use mathlib.Core.List.{List, [], _∷_, _++_, map}
 use mathlib.Core.Logic.{_≢_, _⊎_, inl, inr}
 use mathlib.Core.Path.{_≡_, refl, sym, ap, ap₂, subst, _∙_}
@@ -24,6 +24,7 @@ use Rattle.euclid.specs.DivisionLaws.{remainder-length}
 use Rattle.euclid.specs.Sequence.{monic, following, sequence, turns, final, leads, byLast, formula, steps}
 use Rattle.euclid.specs.MonicLaws.{monic-length, monic-declared, monic-last, monic-ended}
 use Rattle.euclid.specs.FollowingLaws.{Neighbours, next, next-neighbours, following-none, following-some}
+use Rattle.euclid.specs.StepsLaws.{steps-bound}
 use Rattle.euclid.specs.SequenceLaws.{formula-step, formula-head}
 use Rattle.rows.specs.Last.{lastRow, chosen, Lies}
 use Rattle.rows.proofs.Bounds.{declared-minus}
@@ -51,6 +52,17 @@ following-fuel p (suc k) (suc l) a (x ∷ r) hk hl =
 abbrev pub Answer : ℕ → List (List ℕ) → List ℕ → List ℕ → ℕ → ℕ → ℕ → ℕ → Type 0
 Answer p rs u w v s side len =
     (v ≡ val p (formula p rs)) × ((s ≡ steps (map degree rs)) × Lies (monic p (lastRow rs)) u w side len)
+
+-- rows of at most 17 entries take few steps
+pub steps-most : (p : ℕ) → 2 ≤ p → Prime p → (a b : List ℕ) → Neighbours p a b → length a ≤ 17 → {s : ℕ} → s ≡ steps (map degree (sequence p a b)) → s ≤ 256
+unfolding sequence
+steps-most p two prime a b n most e =
+    omega (
+      arith,
+      e,
+      steps-bound p two prime (length b) a b n (omega arith),
+      mul-le-mul {n₁ = declared a} {m₁ = declared b} {n₂ = 16} {m₂ = 16} (omega (arith, declared-minus a)) (omega (arith, declared-minus a, n .order)),
+    )
 
 -- where b is a constant, its monic row is 1 and nothing follows
 pub monic-constant : (p : ℕ) → 2 ≤ p → Prime p → (a b : List ℕ) → Neighbours p a b → length b - 1 ≡ 0 → set b 0 1 ≡ monic p b

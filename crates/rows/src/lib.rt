@@ -7,12 +7,13 @@ ghost use Rattle.ring.specs.Ring.{Ring, pow, sign};
 ghost use Rattle.residue.specs.Prime.{Prime};
 ghost use Rattle.residue.specs.Residue.{residues, res, val};
 ghost use Rattle.residue.specs.Inverse;
-ghost use Rattle.euclid.specs.Row.{declared, trim};
+ghost use Rattle.euclid.specs.Row.{declared, degree, trim};
 ghost use Rattle.euclid.specs.RowLaws.{Below, Ended};
 ghost use Rattle.euclid.specs.Division.{less, remainder, quotient, count};
-ghost use Rattle.euclid.specs.Sequence.{monic};
+ghost use Rattle.euclid.specs.Sequence.{monic, sequence, formula, steps};
 ghost use Rattle.euclid.specs.FollowingLaws.{Neighbours, next};
 ghost use Rattle.rows.specs.Which.{pick, first?, lower};
+ghost use Rattle.rows.specs.Last.{lastRow, Lies};
 
 // part[i] - q * b[i] for every i below d, each in its place
 pub fn subtract(p: u32, q: u32, d: usize, part: &mut [u32], b: &[u32])
@@ -164,5 +165,55 @@ fn divided(p: u32, before: &mut [u32], r: &mut [u32]) -> Cut
     Cut {
         steps,
         len: rest.len(),
+    }
+}
+
+// What a run of the sequence finds: the value of the formula, the coefficient steps, and where its last row stands
+// when it is made monic: in the first work row for side 0, in the second for side 1, from the start, len entries
+pub struct Found {
+    pub value: u32,
+    pub steps: u32,
+    pub side: u32,
+    pub len: usize,
+}
+
+// The monic remainder sequence of two rows, the second no longer than the first, worked out in those rows
+pub fn euclid(p: u32, before: &mut [u32], r: &mut [u32]) -> Found
+    requires { ⌜ 2 ≤ p ⌝ }
+    requires { ⌜ Prime p ⌝ }
+    requires { ⌜ Neighbours p (now before) (now r) ⌝ }
+    requires { ⌜ length (now before) ≤ 17 ⌝ }
+    ensures { λ f. ⌜ f .value ≡ val p (formula p (sequence p (now (before .entry)) (now (r .entry)))) ⌝ }
+    ensures { λ f. ⌜ f .steps ≡ steps (map degree (sequence p (now (before .entry)) (now (r .entry)))) ⌝ }
+    ensures { λ f. ⌜ Lies (monic p (lastRow (sequence p (now (before .entry)) (now (r .entry))))) (now (before .exit)) (now (r .exit)) (f .side) (f .len) ⌝ }
+{
+    let m = before.len() - 1;
+    let n = r.len() - 1;
+    let lead = r[n];
+    if n == 0 {
+        r[0] = 1;
+        return Found {
+            value: field::power(p, lead, m as u32),
+            steps: 0,
+            side: 1,
+            len: 1,
+        };
+    }
+    let cut = divided(p, before, r);
+    let k = cut.len;
+    if k == 0 {
+        return Found {
+            value: 0,
+            steps: cut.steps,
+            side: 1,
+            len: n + 1,
+        };
+    }
+    let rest = euclid(p, r, &mut before[..k]);
+    Found {
+        value: turn(p, lead, m, n, rest.value),
+        steps: cut.steps + rest.steps,
+        side: 1 - rest.side,
+        len: rest.len,
     }
 }
