@@ -1,0 +1,2 @@
+-- The contracts of the public calls, and that each fixes the answer and every lent slice.
+pub mod Results

@@ -1,0 +1,10 @@
+-- Facts on lists and rows that the proofs of the functions cite, a file for each subject.
+pub mod Bounds
+pub mod Chain
+pub mod Monic
+pub mod Places
+pub mod Scaled
+pub mod Trim
+pub mod Turns
+pub mod Value
+pub mod Work

@@ -1,0 +1,3 @@
+-- What the row calls answer.
+pub mod Which
+pub mod Last
