@@ -1,33 +1,36 @@
 -- What one division adds to the answer of the sequence.
 --
---   following-fuel        any bound that covers the row gives the same rows
---   Ran p a b u w v s side len    the answer v, s, side, len of the sequence of a and b, where the work rows end as u and w
---   ran-constant          the answer where b is a constant
---   ran-last              the answer where the division leaves nothing
---   ran-more              the answer from that of b made monic and the next row
-use Prim.Native.Nat.{ℕ, zero, suc, _+_, _*_, _-_, _<_, _≤_, min}
+--   following-fuel          any bound that covers the row gives the same rows
+--   Answer p rs u w v s side len    v, s, side, len answer the sequence rs, where the work rows end as u and w
+--   steps-most              rows of at most 17 entries take few steps
+--   next-constant, monic-constant   after a constant nothing follows; made monic it is 1
+--   byLast-zero, byLast-some        the formula by the degree of the last row
+--   answer-last             the answer where the division leaves nothing
+--   answer-more             the answer from that of b made monic and the next row
+use Prim.Native.Nat.{ℕ, zero, suc, _+_, _*_, _-_, _<_, _≤_}
 use native.Mathlib.Omega.{arith}
 use native.Mathlib.Nat.{add-zero, mul-le-mul}
 use mathlib.Core.List.{List, [], _∷_, _++_, map}
-use mathlib.Core.Logic.{_≢_, _⊎_, inl, inr}
+use mathlib.Core.Logic.{_≢_}
 use mathlib.Core.Path.{_≡_, refl, sym, ap, ap₂, subst, _∙_}
-use lib.ListN.{length, getD, set, take, drop, length-append}
-use lib.Seq.{take-append-le, take-all}
+use lib.ListN.{length, getD, set}
+use lib.Seq.{take-all}
 use Rattle.ring.specs.Ring.{Ring, pow, sign}
 use Rattle.ring.specs.RingLaws.{one-⊗}
 use Rattle.residue.specs.Prime.{Prime}
-use Rattle.residue.specs.Residue.{residues, res, val, val-𝟘, res-val}
-use Rattle.euclid.specs.Row.{trim, declared, degree, lead}
-use Rattle.euclid.specs.RowLaws.{Ended, trim-length, declared-length, ended-degree, ended-lead}
-use Rattle.euclid.specs.Division.{remainder, quotient, count}
+use Rattle.residue.specs.Residue.{residues, res, val, res-val}
+use Rattle.euclid.specs.Row.{declared, degree, lead}
+use Rattle.euclid.specs.RowLaws.{trim-length, ended-degree, ended-lead}
+use Rattle.euclid.specs.Division.{remainder, count}
 use Rattle.euclid.specs.DivisionLaws.{remainder-length}
 use Rattle.euclid.specs.Sequence.{monic, following, sequence, turns, final, leads, byLast, formula, steps}
-use Rattle.euclid.specs.MonicLaws.{monic-length, monic-declared, monic-last, monic-ended}
-use Rattle.euclid.specs.FollowingLaws.{Neighbours, next, next-neighbours, following-none, following-some}
+use Rattle.euclid.specs.MonicLaws.{monic-length, monic-declared, monic-last}
+use Rattle.euclid.specs.FollowingLaws.{Neighbours, next, following-none, following-some}
 use Rattle.euclid.specs.StepsLaws.{steps-bound}
 use Rattle.euclid.specs.SequenceLaws.{formula-step, formula-head}
-use Rattle.rows.specs.Last.{lastRow, chosen, Lies}
+use Rattle.rows.specs.Last.{lastRow, Lies}
 use Rattle.rows.proofs.Bounds.{declared-minus}
+use Rattle.rows.proofs.Sides.{lies-swap, lies-front}
 
 pub empty : (r : List ℕ) → length r ≤ 0 → r ≡ []
 empty [] h = refl
@@ -74,17 +77,6 @@ monic-constant p two prime a (x ∷ y ∷ b) n e = absurd (omega arith)
 
 pub next-constant : (p : ℕ) (a b : List ℕ) → length b - 1 ≡ 0 → next p a b ≡ []
 next-constant p a b e = empty (next p a b) (omega (arith, next-length p a b, declared-minus b))
-
--- where the work of the next division leaves a row, when its two work rows are called by each other's names
-lies-more : {row u w : List ℕ} (rest : List ℕ) (side : ℕ) {len : ℕ} → Lies row u w side len → Lies row (w ++ rest) u (1 - side) len
-lies-more rest zero h = record { sides = omega arith; within = h .within; is = h .is }
-lies-more {row} {u} {w} rest (suc zero) {len} h =
-    record {
-      sides = omega arith;
-      within = omega (arith, length-append w rest, h .within);
-      is = take-append-le len w rest (h .within) ∙ h .is;
-    }
-lies-more rest (suc (suc side)) h = absurd (omega (arith, h .sides))
 
 module _ (p : ℕ) where
   open Ring (residues p) using (C, _⊗_, 𝟘, ⊗-one)
@@ -192,7 +184,7 @@ module _ (p : ℕ) where
             ev ∙ ap (val p) (sym value),
             (
               ap₂ (λ (i j : ℕ). i + j) (es ∙ sym steps-is) (known .1 .0 ∙ ap (λ (j : ℕ). steps (j ∷ degree t ∷ map degree (rest .0))) (sym same-degree)),
-              lies-more over side (known .1 .1),
+              lies-front over (1 - side) (lies-swap side (known .1 .1)),
             ),
           )
         where

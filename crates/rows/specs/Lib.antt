@@ -1,3 +1,4 @@
--- What the row calls answer.
+-- What the row calls ask and answer.
+pub mod Given
 pub mod Which
 pub mod Last

@@ -10,10 +10,11 @@ ghost use Rattle.residue.specs.Inverse;
 ghost use Rattle.euclid.specs.Row.{declared, degree, trim};
 ghost use Rattle.euclid.specs.RowLaws.{Below, Ended};
 ghost use Rattle.euclid.specs.Division.{less, remainder, quotient, count};
-ghost use Rattle.euclid.specs.Sequence.{monic, sequence, formula, steps};
+ghost use Rattle.euclid.specs.Sequence.{monic, sequence, formula, steps, rowResultant, rowSteps};
 ghost use Rattle.euclid.specs.FollowingLaws.{Neighbours, next};
+ghost use Rattle.rows.specs.Given.{IsRow};
 ghost use Rattle.rows.specs.Which.{pick, first?, lower};
-ghost use Rattle.rows.specs.Last.{lastRow, Lies};
+ghost use Rattle.rows.specs.Last.{lastRow, rowSequence, Lies};
 
 // part[i] - q * b[i] for every i below d, each in its place
 pub fn subtract(p: u32, q: u32, d: usize, part: &mut [u32], b: &[u32])
@@ -216,4 +217,53 @@ pub fn euclid(p: u32, before: &mut [u32], r: &mut [u32]) -> Found
         side: 1 - rest.side,
         len: rest.len,
     }
+}
+
+// The row resultant, worked out in the two rows: where the first is shorter they change places, with the sign (-1)^(mn)
+pub fn resultant_in(p: u32, u: &mut [u32], w: &mut [u32]) -> Found
+    requires { ⌜ 2 ≤ p ⌝ }
+    requires { ⌜ Prime p ⌝ }
+    requires { ⌜ IsRow p (now u) ⌝ }
+    requires { ⌜ IsRow p (now w) ⌝ }
+    ensures { λ f. ⌜ f .value ≡ val p (rowResultant p (now (u .entry)) (now (w .entry))) ⌝ }
+    ensures { λ f. ⌜ f .steps ≡ rowSteps p (now (u .entry)) (now (w .entry)) ⌝ }
+    ensures { λ f. ⌜ Lies (monic p (lastRow (rowSequence p (now (u .entry)) (now (w .entry))))) (now (u .exit)) (now (w .exit)) (f .side) (f .len) ⌝ }
+{
+    if u.len() < w.len() {
+        let turns = (u.len() - 1) * (w.len() - 1);
+        let f = euclid(p, w, u);
+        return Found {
+            value: signed(p, turns, f.value),
+            steps: f.steps,
+            side: 1 - f.side,
+            len: f.len,
+        };
+    }
+    euclid(p, u, w)
+}
+
+// The front of the work row filled with r
+fn copy(work: &mut [u32], r: &[u32])
+    requires { ⌜ length (now r) ≤ length (now work) ⌝ }
+    ensures { λ _. ⌜ now (work .exit) ≡ now (r .entry) ++ drop (length (now (r .entry))) (now (work .entry)) ⌝ }
+{
+    for i in 0..r.len() {
+        work[i] = r[i];
+    }
+}
+
+// The row resultant of two lent rows, which stay as they are
+pub fn resultant(p: u32, a: &[u32], b: &[u32]) -> Found
+    requires { ⌜ 2 ≤ p ⌝ }
+    requires { ⌜ Prime p ⌝ }
+    requires { ⌜ IsRow p (now a) ⌝ }
+    requires { ⌜ IsRow p (now b) ⌝ }
+    ensures { λ f. ⌜ f .value ≡ val p (rowResultant p (now (a .entry)) (now (b .entry))) ⌝ }
+    ensures { λ f. ⌜ f .steps ≡ rowSteps p (now (a .entry)) (now (b .entry)) ⌝ }
+{
+    let mut u = [0u32; 17];
+    let mut w = [0u32; 17];
+    copy(&mut u, a);
+    copy(&mut w, b);
+    resultant_in(p, &mut u[..a.len()], &mut w[..b.len()])
 }
