@@ -9,7 +9,7 @@
 use Prim.Native.Nat.{ℕ, suc}
 use mathlib.Core.Bool.{Bool, true, false, _||_}
 use mathlib.Core.List.{List}
-use mathlib.Core.Path.{_≡_, refl, sym, ap, _∙_}
+use mathlib.Core.Path.{_≡_, refl, ap, _∙_}
 use Rattle.scope.specs.Number.{_gives_otherwise_, _then_, outside, composite, tooHigh, tooLong, empty, misfit, over, noLead, unended, rowNumber, divisionNumber}
 use Rattle.checks.specs.Shape.{shapeNumber}
 
