@@ -1,5 +1,4 @@
 -- `checks::division_rows_number`: the code goes down the chain that the definition is.
-use borrow.Author.Needs.{needs}
 use mathlib.Core.Logic.{⊎-elim}
 use mathlib.Core.Path.{refl}
 use Rattle.checks.specs.Parts.{divisionRowsNumber}
@@ -8,10 +7,10 @@ use Rattle.checks.proofs.division_rows_number.Statement.{statement}
 use Rattle.checks.proofs.division_rows_number.Tie as tie
 
 too-long-requires : tie.Need-too-long-requires
-too-long-requires c κs = search needs
+too-long-requires c κs = tt
 
 too-long-requires-2 : tie.Need-too-long-requires-2
-too-long-requires-2 c κs = search needs
+too-long-requires-2 c κs = tt
 
 returns : tie.Need-returns
 unfolding divisionRowsNumber
@@ -20,10 +19,10 @@ returns c =
     here _ (⊎-elim (λ w. first _ long (w .taken)) (λ w. second long (w .1 .ensures) (w .2 .taken)) (c .if1 .came))
 
 over-requires : tie.Need-over-requires
-over-requires c κs = search needs
+over-requires c κs = tt
 
 over-requires-2 : tie.Need-over-requires-2
-over-requires-2 c κs = search needs
+over-requires-2 c κs = tt
 
 returns-2 : tie.Need-returns-2
 unfolding divisionRowsNumber
@@ -34,7 +33,7 @@ returns-2 c =
     (here _ (⊎-elim (λ w. first _ over (w .taken)) (λ w. second over (w .1 .ensures) (w .2 .taken)) (c .if3 .came)))
 
 unended-requires : tie.Need-unended-requires
-unended-requires c κs = search needs
+unended-requires c κs = tt
 
 returns-3 : tie.Need-returns-3
 unfolding divisionRowsNumber

@@ -1,5 +1,4 @@
 -- `checks::modulus_number`: the code goes down the chain that the definition is.
-use borrow.Author.Needs.{needs}
 use mathlib.Core.Path.{refl}
 use Rattle.checks.specs.Parts.{modulusNumber}
 use Rattle.checks.proofs.Chain.{holds, fails, here, past}
@@ -7,14 +6,14 @@ use Rattle.checks.proofs.modulus_number.Statement.{statement}
 use Rattle.checks.proofs.modulus_number.Tie as tie
 
 outside-requires : tie.Need-outside-requires
-outside-requires c κs = search needs
+outside-requires c κs = tt
 
 returns : tie.Need-returns
 unfolding modulusNumber
 returns c = here _ (holds (c .before .outside .ensures) (c .if1 .taken))
 
 composite-requires : tie.Need-composite-requires
-composite-requires c κs = search needs
+composite-requires c κs = tt
 
 returns-2 : tie.Need-returns-2
 unfolding modulusNumber

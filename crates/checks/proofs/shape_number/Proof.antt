@@ -1,5 +1,4 @@
 -- `checks::shape_number`: the parts of the chain, one after the other.
-use borrow.Author.Needs.{needs}
 use mathlib.Core.Logic.{⊎-elim, inl, inr}
 use mathlib.Core.Path.{refl, sym, _∙_}
 use Rattle.scope.specs.Number.{tooHigh}
@@ -10,22 +9,22 @@ use Rattle.checks.proofs.shape_number.Statement.{statement}
 use Rattle.checks.proofs.shape_number.Tie as tie
 
 modulus-number-requires : tie.Need-modulus-number-requires
-modulus-number-requires c κs = search needs
+modulus-number-requires c κs = tt
 
 returns : tie.Need-returns
 returns c = halted _ (c .before .modulus-number .ensures) (c .if1 .taken) ∙ sym (shape-parts _ _ _ _ _ _ _)
 
 too-high-requires : tie.Need-too-high-requires
-too-high-requires c κs = search needs
+too-high-requires c κs = tt
 
 too-high-requires-2 : tie.Need-too-high-requires-2
-too-high-requires-2 c κs = search needs
+too-high-requires-2 c κs = tt
 
 too-high-requires-3 : tie.Need-too-high-requires-3
-too-high-requires-3 c κs = search needs
+too-high-requires-3 c κs = tt
 
 too-high-requires-4 : tie.Need-too-high-requires-4
-too-high-requires-4 c κs = search needs
+too-high-requires-4 c κs = tt
 
 returns-2 : tie.Need-returns-2
 returns-2 c =

@@ -1,5 +1,4 @@
 -- `checks::tables_number`: the code goes down the chain that the definition is.
-use borrow.Author.Needs.{needs}
 use native.Mathlib.Omega.{arith}
 use mathlib.Core.Logic.{⊎-elim}
 use mathlib.Core.Path.{refl}
@@ -10,10 +9,10 @@ use Rattle.checks.proofs.tables_number.Statement.{statement}
 use Rattle.checks.proofs.tables_number.Tie as tie
 
 misfit-requires : tie.Need-misfit-requires
-misfit-requires c κs = search needs
+misfit-requires c κs = omega arith
 
 misfit-requires-2 : tie.Need-misfit-requires-2
-misfit-requires-2 c κs = search needs
+misfit-requires-2 c κs = omega arith
 
 returns : tie.Need-returns
 unfolding tablesNumber
@@ -22,10 +21,10 @@ returns c =
     here _ (⊎-elim (λ w. first _ misfit (w .taken)) (λ w. second misfit (w .1 .ensures) (w .2 .taken)) (c .if1 .came))
 
 over-requires : tie.Need-over-requires
-over-requires c κs = search needs
+over-requires c κs = tt
 
 over-requires-2 : tie.Need-over-requires-2
-over-requires-2 c κs = search needs
+over-requires-2 c κs = tt
 
 returns-2 : tie.Need-returns-2
 unfolding tablesNumber
