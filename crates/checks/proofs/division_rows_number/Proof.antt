@@ -2,7 +2,7 @@
 use mathlib.Core.Logic.{⊎-elim}
 use mathlib.Core.Path.{refl}
 use Rattle.checks.specs.Parts.{divisionRowsNumber}
-use Rattle.checks.proofs.Chain.{holds, fails, first, second, neither, here, past}
+use Rattle.checks.proofs.Chain.{said, first, second, neither, here, past}
 use Rattle.checks.proofs.division_rows_number.Statement.{statement}
 use Rattle.checks.proofs.division_rows_number.Tie as tie
 
@@ -42,7 +42,7 @@ returns-3 c =
     let d = e .before .before .before .before in
     past 4 (neither (d .before .before .before .too-long .ensures) (d .before .before .if1 .left) (d .before .too-long2 .ensures) (d .if2 .left))
     (past 6 (neither (e .before .before .before .over .ensures) (e .before .before .if3 .left) (e .before .over2 .ensures) (e .if4 .left))
-    (here _ (holds (c .before .unended .ensures) (c .if5 .taken))))
+    (here _ (said (c .before .unended .ensures) (c .if5 .taken))))
 
 returns-4 : tie.Need-returns-4
 unfolding divisionRowsNumber
@@ -51,7 +51,7 @@ returns-4 c =
     let d = e .before .before .before .before in
     past 4 (neither (d .before .before .before .too-long .ensures) (d .before .before .if1 .left) (d .before .too-long2 .ensures) (d .if2 .left))
     (past 6 (neither (e .before .before .before .over .ensures) (e .before .before .if3 .left) (e .before .over2 .ensures) (e .if4 .left))
-    (past 15 (fails (c .before .unended .ensures) (c .if5 .left))
+    (past 15 (said (c .before .unended .ensures) (c .if5 .left))
     refl))
 
 pub division-rows-number-spec : {M : Type 1} → statement M
