@@ -1,6 +1,6 @@
 -- How a number is reached along a chain of refusals.
 --
---   holds, fails        a test's answer, said of the test's definition
+--   said                a test's answer, said of the test's definition
 --   first, second       one of two tests holds
 --   neither             neither does
 --   one-of              one of four tests holds
@@ -16,20 +16,17 @@ use mathlib.Core.Path.{_≡_, refl, sym, ap, _∙_}
 use Rattle.scope.specs.Number.{_gives_otherwise_, _then_}
 use Rattle.checks.specs.Refusal.{gives-true, gives-false, then-refused, then-done}
 
-pub holds : {x t : Bool} → x ≡ t → x ≡ true → t ≡ true
-holds e h = sym e ∙ h
-
-pub fails : {x t : Bool} → x ≡ t → x ≡ false → t ≡ false
-fails e h = sym e ∙ h
+pub said : {x t b : Bool} → x ≡ t → x ≡ b → t ≡ b
+said e h = sym e ∙ h
 
 pub first : {x t : Bool} (u : Bool) → x ≡ t → x ≡ true → (t || u) ≡ true
-first u e h = ap (λ (b : Bool). b || u) (holds e h)
+first u e h = ap (λ (b : Bool). b || u) (said e h)
 
 pub second : {x y t u : Bool} → x ≡ t → y ≡ u → y ≡ true → (t || u) ≡ true
-second {t = t} _ e h = ap (λ (b : Bool). t || b) (holds e h) ∙ or-true t
+second {t = t} _ e h = ap (λ (b : Bool). t || b) (said e h) ∙ or-true t
 
 pub neither : {x y t u : Bool} → x ≡ t → x ≡ false → y ≡ u → y ≡ false → (t || u) ≡ false
-neither {u = u} e h f k = ap (λ (b : Bool). b || u) (fails e h) ∙ fails f k
+neither {u = u} e h f k = ap (λ (b : Bool). b || u) (said e h) ∙ said f k
 
 pub one-of : (t u v w : Bool) → (t ≡ true) ⊎ ((u ≡ true) ⊎ ((v ≡ true) ⊎ (w ≡ true))) → (t || u || v || w) ≡ true
 one-of t u v w (inl h) = first w refl (first v refl (first u refl h))

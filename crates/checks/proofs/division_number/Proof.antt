@@ -1,5 +1,4 @@
 -- `checks::division_number`: the parts of the chain, one after the other.
-use borrow.Author.Needs.{needs}
 use mathlib.Core.Path.{sym, _∙_}
 use Rattle.checks.specs.Parts.{division-parts}
 use Rattle.checks.proofs.Chain.{halted, onward}
@@ -7,13 +6,13 @@ use Rattle.checks.proofs.division_number.Statement.{statement}
 use Rattle.checks.proofs.division_number.Tie as tie
 
 modulus-number-requires : tie.Need-modulus-number-requires
-modulus-number-requires c κs = search needs
+modulus-number-requires c κs = tt
 
 returns : tie.Need-returns
 returns c = halted _ (c .before .modulus-number .ensures) (c .if1 .taken) ∙ sym (division-parts _ _ _)
 
 division-rows-number-requires : tie.Need-division-rows-number-requires
-division-rows-number-requires c κs = search needs
+division-rows-number-requires c κs = tt
 
 returns-2 : tie.Need-returns-2
 returns-2 c =

@@ -1,17 +1,16 @@
 -- `checks::division_rows_number`: the code goes down the chain that the definition is.
-use borrow.Author.Needs.{needs}
 use mathlib.Core.Logic.{⊎-elim}
 use mathlib.Core.Path.{refl}
 use Rattle.checks.specs.Parts.{divisionRowsNumber}
-use Rattle.checks.proofs.Chain.{holds, fails, first, second, neither, here, past}
+use Rattle.checks.proofs.Chain.{said, first, second, neither, here, past}
 use Rattle.checks.proofs.division_rows_number.Statement.{statement}
 use Rattle.checks.proofs.division_rows_number.Tie as tie
 
 too-long-requires : tie.Need-too-long-requires
-too-long-requires c κs = search needs
+too-long-requires c κs = tt
 
 too-long-requires-2 : tie.Need-too-long-requires-2
-too-long-requires-2 c κs = search needs
+too-long-requires-2 c κs = tt
 
 returns : tie.Need-returns
 unfolding divisionRowsNumber
@@ -20,10 +19,10 @@ returns c =
     here _ (⊎-elim (λ w. first _ long (w .taken)) (λ w. second long (w .1 .ensures) (w .2 .taken)) (c .if1 .came))
 
 over-requires : tie.Need-over-requires
-over-requires c κs = search needs
+over-requires c κs = tt
 
 over-requires-2 : tie.Need-over-requires-2
-over-requires-2 c κs = search needs
+over-requires-2 c κs = tt
 
 returns-2 : tie.Need-returns-2
 unfolding divisionRowsNumber
@@ -34,7 +33,7 @@ returns-2 c =
     (here _ (⊎-elim (λ w. first _ over (w .taken)) (λ w. second over (w .1 .ensures) (w .2 .taken)) (c .if3 .came)))
 
 unended-requires : tie.Need-unended-requires
-unended-requires c κs = search needs
+unended-requires c κs = tt
 
 returns-3 : tie.Need-returns-3
 unfolding divisionRowsNumber
@@ -43,7 +42,7 @@ returns-3 c =
     let d = e .before .before .before .before in
     past 4 (neither (d .before .before .before .too-long .ensures) (d .before .before .if1 .left) (d .before .too-long2 .ensures) (d .if2 .left))
     (past 6 (neither (e .before .before .before .over .ensures) (e .before .before .if3 .left) (e .before .over2 .ensures) (e .if4 .left))
-    (here _ (holds (c .before .unended .ensures) (c .if5 .taken))))
+    (here _ (said (c .before .unended .ensures) (c .if5 .taken))))
 
 returns-4 : tie.Need-returns-4
 unfolding divisionRowsNumber
@@ -52,7 +51,7 @@ returns-4 c =
     let d = e .before .before .before .before in
     past 4 (neither (d .before .before .before .too-long .ensures) (d .before .before .if1 .left) (d .before .too-long2 .ensures) (d .if2 .left))
     (past 6 (neither (e .before .before .before .over .ensures) (e .before .before .if3 .left) (e .before .over2 .ensures) (e .if4 .left))
-    (past 15 (fails (c .before .unended .ensures) (c .if5 .left))
+    (past 15 (said (c .before .unended .ensures) (c .if5 .left))
     refl))
 
 pub division-rows-number-spec : {M : Type 1} → statement M

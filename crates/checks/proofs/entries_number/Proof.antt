@@ -1,5 +1,4 @@
 -- `checks::entries_number`: the code goes down the chain that the definition is.
-use borrow.Author.Needs.{needs}
 use mathlib.Core.Logic.{⊎-elim}
 use mathlib.Core.Path.{refl}
 use Rattle.checks.specs.Parts.{entriesNumber}
@@ -8,10 +7,10 @@ use Rattle.checks.proofs.entries_number.Statement.{statement}
 use Rattle.checks.proofs.entries_number.Tie as tie
 
 over-requires : tie.Need-over-requires
-over-requires c κs = search needs
+over-requires c κs = tt
 
 over-requires-2 : tie.Need-over-requires-2
-over-requires-2 c κs = search needs
+over-requires-2 c κs = tt
 
 returns : tie.Need-returns
 unfolding entriesNumber
@@ -20,10 +19,10 @@ returns c =
     here _ (⊎-elim (λ w. first _ over (w .taken)) (λ w. second over (w .1 .ensures) (w .2 .taken)) (c .if1 .came))
 
 unended-requires : tie.Need-unended-requires
-unended-requires c κs = search needs
+unended-requires c κs = tt
 
 unended-requires-2 : tie.Need-unended-requires-2
-unended-requires-2 c κs = search needs
+unended-requires-2 c κs = tt
 
 returns-2 : tie.Need-returns-2
 unfolding entriesNumber

@@ -1,5 +1,4 @@
 -- `checks::lengths_number`: the code goes down the chain that the definition is.
-use borrow.Author.Needs.{needs}
 use mathlib.Core.Logic.{⊎-elim}
 use mathlib.Core.Path.{refl}
 use Rattle.checks.specs.Parts.{lengthsNumber}
@@ -8,10 +7,10 @@ use Rattle.checks.proofs.lengths_number.Statement.{statement}
 use Rattle.checks.proofs.lengths_number.Tie as tie
 
 too-long-requires : tie.Need-too-long-requires
-too-long-requires c κs = search needs
+too-long-requires c κs = tt
 
 too-long-requires-2 : tie.Need-too-long-requires-2
-too-long-requires-2 c κs = search needs
+too-long-requires-2 c κs = tt
 
 returns : tie.Need-returns
 unfolding lengthsNumber
@@ -20,10 +19,10 @@ returns c =
     here _ (⊎-elim (λ w. first _ long (w .taken)) (λ w. second long (w .1 .ensures) (w .2 .taken)) (c .if1 .came))
 
 empty-requires : tie.Need-empty-requires
-empty-requires c κs = search needs
+empty-requires c κs = tt
 
 empty-requires-2 : tie.Need-empty-requires-2
-empty-requires-2 c κs = search needs
+empty-requires-2 c κs = tt
 
 returns-2 : tie.Need-returns-2
 unfolding lengthsNumber

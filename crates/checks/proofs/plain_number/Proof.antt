@@ -12,7 +12,7 @@ use Rattle.checks.proofs.plain_number.Statement.{statement}
 use Rattle.checks.proofs.plain_number.Tie as tie
 
 row-number-requires : tie.Need-row-number-requires
-row-number-requires c κs = search needs
+row-number-requires c κs = tt
 
 returns : tie.Need-returns
 unfolding plainNumber

@@ -1,31 +1,30 @@
 -- `checks::shape_number`: the parts of the chain, one after the other.
-use borrow.Author.Needs.{needs}
 use mathlib.Core.Logic.{⊎-elim, inl, inr}
 use mathlib.Core.Path.{refl, sym, _∙_}
 use Rattle.scope.specs.Number.{tooHigh}
 use Rattle.checks.specs.Facts.{high-false}
 use Rattle.checks.specs.Parts.{shape-parts}
-use Rattle.checks.proofs.Chain.{holds, fails, neither, one-of, here, past, halted, onward}
+use Rattle.checks.proofs.Chain.{said, neither, one-of, here, past, halted, onward}
 use Rattle.checks.proofs.shape_number.Statement.{statement}
 use Rattle.checks.proofs.shape_number.Tie as tie
 
 modulus-number-requires : tie.Need-modulus-number-requires
-modulus-number-requires c κs = search needs
+modulus-number-requires c κs = tt
 
 returns : tie.Need-returns
 returns c = halted _ (c .before .modulus-number .ensures) (c .if1 .taken) ∙ sym (shape-parts _ _ _ _ _ _ _)
 
 too-high-requires : tie.Need-too-high-requires
-too-high-requires c κs = search needs
+too-high-requires c κs = tt
 
 too-high-requires-2 : tie.Need-too-high-requires-2
-too-high-requires-2 c κs = search needs
+too-high-requires-2 c κs = tt
 
 too-high-requires-3 : tie.Need-too-high-requires-3
-too-high-requires-3 c κs = search needs
+too-high-requires-3 c κs = tt
 
 too-high-requires-4 : tie.Need-too-high-requires-4
-too-high-requires-4 c κs = search needs
+too-high-requires-4 c κs = tt
 
 returns-2 : tie.Need-returns-2
 returns-2 c =
@@ -34,9 +33,9 @@ returns-2 c =
     onward (d .before .modulus-number .ensures) (d .if1 .left)
     (here _
     (one-of (tooHigh (start .args .m)) (tooHigh (start .args .e)) (tooHigh (start .args .n)) (tooHigh (start .args .f))
-    (⊎-elim (λ w. inl (holds (c .before .too-high .ensures) (w .taken)))
-    (⊎-elim (λ w. inr (inl (holds (w .1 .ensures) (w .2 .taken))))
-    (⊎-elim (λ w. inr (inr (inl (holds (w .3 .ensures) (w .4 .taken))))) (λ w. inr (inr (inr (holds (w .5 .ensures) (w .6 .taken)))))))
+    (⊎-elim (λ w. inl (said (c .before .too-high .ensures) (w .taken)))
+    (⊎-elim (λ w. inr (inl (said (w .1 .ensures) (w .2 .taken))))
+    (⊎-elim (λ w. inr (inr (inl (said (w .3 .ensures) (w .4 .taken))))) (λ w. inr (inr (inr (said (w .5 .ensures) (w .6 .taken)))))))
     (c .if2 .came)))) ∙
     sym (shape-parts _ _ _ _ _ _ _)
 
@@ -45,10 +44,10 @@ tables-number-requires c κs =
     let c₃ = c .before .before in
     let c₂ = c₃ .before .before in
     let c₁ = c₂ .before .before in (
-      high-false _ (fails (c₁ .before .too-high .ensures) (c₁ .if2 .left)),
+      high-false _ (said (c₁ .before .too-high .ensures) (c₁ .if2 .left)),
       (
-        high-false _ (fails (c₂ .before .too-high2 .ensures) (c₂ .if3 .left)),
-        (high-false _ (fails (c₃ .before .too-high3 .ensures) (c₃ .if4 .left)), high-false _ (fails (c .before .too-high4 .ensures) (c .if5 .left))),
+        high-false _ (said (c₂ .before .too-high2 .ensures) (c₂ .if3 .left)),
+        (high-false _ (said (c₃ .before .too-high3 .ensures) (c₃ .if4 .left)), high-false _ (said (c .before .too-high4 .ensures) (c .if5 .left))),
       ),
     )
 

@@ -1,19 +1,18 @@
 -- `checks::tables_number`: the code goes down the chain that the definition is.
-use borrow.Author.Needs.{needs}
 use native.Mathlib.Omega.{arith}
 use mathlib.Core.Logic.{⊎-elim}
 use mathlib.Core.Path.{refl}
 use Rattle.checks.specs.Facts.{misfit-false}
 use Rattle.checks.specs.Parts.{tablesNumber}
-use Rattle.checks.proofs.Chain.{fails, first, second, neither, here, past}
+use Rattle.checks.proofs.Chain.{said, first, second, neither, here, past}
 use Rattle.checks.proofs.tables_number.Statement.{statement}
 use Rattle.checks.proofs.tables_number.Tie as tie
 
 misfit-requires : tie.Need-misfit-requires
-misfit-requires c κs = search needs
+misfit-requires c κs = omega arith
 
 misfit-requires-2 : tie.Need-misfit-requires-2
-misfit-requires-2 c κs = search needs
+misfit-requires-2 c κs = omega arith
 
 returns : tie.Need-returns
 unfolding tablesNumber
@@ -22,10 +21,10 @@ returns c =
     here _ (⊎-elim (λ w. first _ misfit (w .taken)) (λ w. second misfit (w .1 .ensures) (w .2 .taken)) (c .if1 .came))
 
 over-requires : tie.Need-over-requires
-over-requires c κs = search needs
+over-requires c κs = tt
 
 over-requires-2 : tie.Need-over-requires-2
-over-requires-2 c κs = search needs
+over-requires-2 c κs = tt
 
 returns-2 : tie.Need-returns-2
 unfolding tablesNumber
@@ -38,12 +37,12 @@ returns-2 c =
 no-lead-requires : tie.Need-no-lead-requires
 no-lead-requires c κs =
     let d = c .before .before .before .before in
-    (omega arith, (omega arith, misfit-false _ _ _ (fails (d .before .before .before .misfit .ensures) (d .before .before .if1 .left))))
+    (omega arith, (omega arith, misfit-false _ _ _ (said (d .before .before .before .misfit .ensures) (d .before .before .if1 .left))))
 
 no-lead-requires-2 : tie.Need-no-lead-requires-2
 no-lead-requires-2 c κs =
     let d = c .before .before .before .before .before .before in
-    (omega arith, (omega arith, misfit-false _ _ _ (fails (d .before .misfit2 .ensures) (d .if2 .left))))
+    (omega arith, (omega arith, misfit-false _ _ _ (said (d .before .misfit2 .ensures) (d .if2 .left))))
 
 returns-3 : tie.Need-returns-3
 unfolding tablesNumber
