@@ -1,4 +1,5 @@
 -- The contracts of the public calls, and that each fixes the answer and every lent slice.
 pub mod Results
+pub mod RowLaws
 pub mod Unique
 pub mod Shams
