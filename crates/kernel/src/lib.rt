@@ -5,7 +5,6 @@ ghost use mathlib.Core.Path.{_≡_};
 ghost use Rattle.rows.specs.Which.{first?, pick};
 ghost use Rattle.kernel.specs.Results.{RowResult, PlainResult, DivisionResult, DivisorResult};
 
-
 // value: the resultant. steps: the coefficient steps of the remainder sequence.
 #[repr(C)]
 pub struct RowAnswer {
@@ -33,10 +32,18 @@ pub fn row_resultant(p: u32, a: &[u32], b: &[u32]) -> RowAnswer
 {
     let number = checks::row_number(p, a, b);
     if number != 0 {
-        return RowAnswer { number: number, value: 0, steps: 0 };
+        return RowAnswer {
+            number: number,
+            value: 0,
+            steps: 0,
+        };
     }
     let found = rows::resultant(p, a, b);
-    RowAnswer { number: 0, value: found.value, steps: found.steps }
+    RowAnswer {
+        number: 0,
+        value: found.value,
+        steps: found.steps,
+    }
 }
 
 // The same resultant for m + n <= 6, by expansion along rows.
@@ -45,9 +52,15 @@ pub fn plain_determinant(p: u32, a: &[u32], b: &[u32]) -> PlainAnswer
 {
     let number = checks::plain_number(p, a, b);
     if number != 0 {
-        return PlainAnswer { number: number, value: 0 };
+        return PlainAnswer {
+            number: number,
+            value: 0,
+        };
     }
-    PlainAnswer { number: 0, value: plain::plain(p, a, b) }
+    PlainAnswer {
+        number: 0,
+        value: plain::plain(p, a, b),
+    }
 }
 
 // Division in the work row: remainder and quotient take the dividend's place.
@@ -56,10 +69,16 @@ pub fn divide(p: u32, row: &mut [u32], b: &[u32]) -> DivisionAnswer
 {
     let number = checks::division_number(p, &row[..], b);
     if number != 0 {
-        return DivisionAnswer { number: number, count: 0 };
+        return DivisionAnswer {
+            number: number,
+            count: 0,
+        };
     }
     let count = rows::divide(p, row, b);
-    DivisionAnswer { number: 0, count: count }
+    DivisionAnswer {
+        number: 0,
+        count: count,
+    }
 }
 
 // Which row divides: the stretch of the caller's own row, of lower true degree, cut after its last nonzero entry.
