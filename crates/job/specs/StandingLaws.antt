@@ -1,12 +1,15 @@
 -- What stands of a sound record, and what every offer and every lot keeps.
 --
---   needed-fits             at most 513 points are needed, so that the record has room for them
+--   needed-low              degrees in x of at most 16 need at most 513 points
+--   needed-fits             so a sound record has room for the points needed
+--   count-fits              and for those kept
+--   kept-length, kept-getD  the kept points as a list
 --   standing-different      the kept points are different numbers below p
 --   offer-kept, kept-offer  an offer answers 0 exactly for a good point while fewer than needed are kept
 --   offered-kept            then the point is stored; offered-else: after any other answer the job is as it was
---   stored-standing         a record that stands still stands when a kept point is stored;
---   offered-standing        after any offer; lotted-standing: after any lot
---   offered-pair            an offer leaves the pair as it is; lotted-pair: so does a lot
+--   stored-standing         a record that stands still stands when a kept point is stored
+--   offered-standing        and after any offer; lotted-standing: after any lot
+--   stored-pair             storing a point leaves the pair as it is; offered-pair, lotted-pair: so do an offer and a lot
 --   lotted-append           it does not matter how offers are grouped into lots; lotAnswers-append: nor for the answers
 use Prim.Native.Nat.{ℕ, _+_, _≤_, _<_}
 use native.Mathlib.Nat.{mul-le-mul}
@@ -31,14 +34,29 @@ use Rattle.job.specs.Calls.{agrees, offerNumber, offered, lotAnswers, lo
 use Rattle.job.specs.Standing.{Standing}
 use Rattle.job.specs.TestLaws.{then-zero, among-false, pointNumber-zero}
 
-pub needed-fits : (j : Job) → Standing j → needed (pairOf j) ≤ 513
+pub needed-low : (j : Job) → j .m ≤ 16 → j .n ≤ 16 → needed (pairOf j) ≤ 513
 unfolding needed bound degreeA degreeB pairOf
-needed-fits j s =
+needed-low j low-m low-n =
     omega (
       arith,
-      mul-le-mul {n₁ = j .n} {m₁ = degreeA (pairOf j)} {n₂ = 16} {m₂ = 16} (s .low-n) (largest-bound 16 _),
-      mul-le-mul {n₁ = j .m} {m₁ = degreeB (pairOf j)} {n₂ = 16} {m₂ = 16} (s .low-m) (largest-bound 16 _),
+      mul-le-mul {n₁ = j .n} {m₁ = degreeA (pairOf j)} {n₂ = 16} {m₂ = 16} low-n (largest-bound 16 _),
+      mul-le-mul {n₁ = j .m} {m₁ = degreeB (pairOf j)} {n₂ = 16} {m₂ = 16} low-m (largest-bound 16 _),
     )
+
+pub needed-fits : (j : Job) → Standing j → needed (pairOf j) ≤ 513
+needed-fits j s = needed-low j (s .low-m) (s .low-n)
+
+pub count-fits : (j : Job) → Standing j → j .count ≤ 513
+count-fits j s = omega (arith, s .few, needed-fits j s)
+
+-- the kept points as a list
+pub kept-length : (j : Job) → j .count ≤ length (j .points) → length (keptPoints j) ≡ j .count
+unfolding keptPoints
+kept-length j h = length-take-le (j .count) (j .points) h
+
+pub kept-getD : (j : Job) (i : ℕ) → i < j .count → getD (keptPoints j) i 0 ≡ getD (j .points) i 0
+unfolding keptPoints
+kept-getD j i l = getD-take (j .count) (j .points) i 0 l
 
 pub standing-different : (j : Job) → Standing j → Different (j .p) (j .count) (λ i. getD (j .points) i 0)
 standing-different j s = record { below = s .point-below; apart = s .point-apart }
@@ -46,8 +64,11 @@ standing-different j s = record { below = s .point-below; apart = s .point-apart
 module _ (j : Job) (a : ℕ) where
   pub offer-kept : offerNumber j a ≡ 0 → (pointNumber (pairOf j) (keptPoints j) a ≡ 0) × (j .count < needed (pairOf j))
   unfolding offerNumber
-  offer-kept h = let (point, rest) = then-zero (pointNumber (pairOf j) (keptPoints j) a) _ .0 h in (point, ltb-true (j .count) (needed (pairOf j)) (low (ltb (j .count) (needed (pairOf j))) (agrees j a) rest))
+  offer-kept h =
+      let (point, rest) = then-zero (pointNumber (pairOf j) (keptPoints j) a) _ .0 h in
+      (point, ltb-true (j .count) (needed (pairOf j)) (low (ltb (j .count) (needed (pairOf j))) (agrees j a) rest))
     where
+      -- a surplus point answers 1 or 13
       low : (t u : Bool) → _≡_ {A = ℕ} (cond t 0 (cond u 1 13)) 0 → t ≡ true
       low true u e = refl
       low false true e = absurd (omega arith)
@@ -102,10 +123,8 @@ module _ (j : Job) (a : ℕ) (s : Standing j) (h : offerNumber j a ≡ 0) where
   before i l = getD-set-other (j .points) (j .count) i a 0 (λ (q : i ≡ j .count). omega arith)
 
   fresh : (i : ℕ) → i < j .count → getD (j .points) i 0 ≢ a
-  unfolding keptPoints
   fresh i l q =
-      among-false a (keptPoints j) .0 (fits .1) i (rw (length-take-le (j .count) (j .points) (omega (arith, room-points))) l)
-      (sym q ∙ sym (getD-take (j .count) (j .points) i 0 l))
+      among-false a (keptPoints j) .0 (fits .1) i (rw (kept-length j (omega (arith, room-points))) l) (sym q ∙ sym (kept-getD j i l))
 
   pub stored-standing : Standing (stored j a)
   unfolding stored pairOf

@@ -15,3 +15,19 @@ pub struct Job {
     pub points: [u32; 513],
     pub values: [u32; 513],
 }
+
+// What an opening, an offer or a lot answers: the number, and the job afterwards.
+#[repr(C)]
+pub struct JobAnswer {
+    pub number: u32,
+    pub job: Job,
+}
+
+// What a read or a one-shot answers. wanted: how many points are still wanted, with 14. zero: 1 where the polynomial is zero.
+#[repr(C)]
+pub struct ReadAnswer {
+    pub number: u32,
+    pub wanted: u32,
+    pub degree: u32,
+    pub zero: u32,
+}
