@@ -9,16 +9,16 @@ use Prim.Native.Nat.{ℕ, _-_, _<_, _≤_}
 use native.Mathlib.Omega.{arith}
 use mathlib.Core.List.{List, [], _++_}
 use mathlib.Core.Logic.{_⊎_, inl, inr}
-use mathlib.Core.Path.{_≡_, refl, sym, ap, subst, _∙_}
+use mathlib.Core.Path.{_≡_, sym, ap, subst, _∙_}
 use lib.ListN.{length, take, length-append}
 use lib.Seq.{take-at, take-append-le}
 use Rattle.residue.specs.Prime.{Prime}
 use Rattle.euclid.specs.Row.{trim, declared}
-use Rattle.euclid.specs.RowLaws.{Below, Ended, trim-length, declared-length, ended-trim}
+use Rattle.euclid.specs.RowLaws.{Below, Ended, trim-length, ended-trim}
 use Rattle.euclid.specs.Division.{remainder, quotient}
 use Rattle.euclid.specs.DivisionLaws.{remainder-length}
 use Rattle.euclid.specs.Sequence.{monic}
-use Rattle.euclid.specs.MonicLaws.{monic-length, monic-declared, monic-below, monic-ended}
+use Rattle.euclid.specs.MonicLaws.{monic-length, monic-below, monic-ended}
 use Rattle.euclid.specs.FollowingLaws.{Neighbours, next, next-neighbours}
 use Rattle.rows.specs.Which.{lower, lower-first}
 use Rattle.rows.proofs.Bounds.{declared-minus}

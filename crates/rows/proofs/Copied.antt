@@ -2,6 +2,7 @@
 --
 --   Copied d r work i       work is the row d with the first i entries of r in front
 --   copied-first, copied-more, copied-last    before the first entry; one entry more; after the last
+--   copied-front            the copy is the front of the work row
 use Prim.Native.Nat.{ℕ, _+_, _<_, _≤_}
 use native.Mathlib.Nat.{zero-add}
 use native.Mathlib.Numerals.{add-one}
@@ -9,7 +10,7 @@ use native.Mathlib.Omega.{arith}
 use mathlib.Core.List.{List, _++_}
 use mathlib.Core.Path.{_≡_, refl, sym, ap, ap₂, _∙_}
 use lib.ListN.{length, getD, set, take, drop, length-set}
-use lib.Seq.{paste, paste-zero, paste-suc, take-all}
+use lib.Seq.{paste, paste-zero, paste-suc, take-all, take-append-seam}
 
 pub record Copied (d r work : List ℕ) (i : ℕ) : Type 0 where
   pub within : i ≤ length r
@@ -37,3 +38,6 @@ module _ {d r work : List ℕ} {i : ℕ} (h : Copied d r work i) where
       let e : i ≡ length r = omega (arith, h .within) in
       h .is
       ∙ ap₂ (λ (s : List ℕ) (n : ℕ). s ++ drop n d) (take-all i r most) (zero-add i ∙ e)
+
+pub copied-front : (r rest : List ℕ) {work : List ℕ} → work ≡ r ++ rest → take (length r) work ≡ r
+copied-front r rest e = ap (take (length r)) e ∙ take-append-seam r rest

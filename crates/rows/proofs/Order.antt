@@ -14,7 +14,7 @@ use lib.ListN.{length}
 use Rattle.ring.specs.Ring.{Ring, sign}
 use Rattle.residue.specs.Residue.{residues, res, val, res-val}
 use Rattle.euclid.specs.Row.{degree}
-use Rattle.euclid.specs.RowLaws.{Ended, ended-degree}
+use Rattle.euclid.specs.RowLaws.{ended-degree}
 use Rattle.euclid.specs.Sequence.{monic, sequence, bySize, rowResultant, stepsBySize, rowSteps}
 use Rattle.euclid.specs.FollowingLaws.{Neighbours, shorter-neighbours, longer-neighbours}
 use Rattle.rows.specs.Given.{IsRow}

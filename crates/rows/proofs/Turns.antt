@@ -7,25 +7,25 @@
 --   byLast-zero, byLast-some        the formula by the degree of the last row
 --   answer-last             the answer where the division leaves nothing
 --   answer-more             the answer from that of b made monic and the next row
-use Prim.Native.Nat.{ℕ, zero, suc, _+_, _*_, _-_, _<_, _≤_, min}
+use Prim.Native.Nat.{ℕ, zero, suc, _+_, _*_, _-_, _<_, _≤_}
 use native.Mathlib.Omega.{arith}
 use native.Mathlib.Nat.{add-zero, mul-le-mul}
 use mathlib.Core.List.{List, [], _∷_, _++_, map}
-use mathlib.Core.Logic.{_≢_, _⊎_, inl, inr}
+use mathlib.Core.Logic.{_≢_}
 use mathlib.Core.Path.{_≡_, refl, sym, ap, ap₂, subst, _∙_}
-use lib.ListN.{length, getD, set, take, drop, length-append}
-use lib.Seq.{take-append-le, take-all}
+use lib.ListN.{length, getD, set}
+use lib.Seq.{take-all}
 use Rattle.ring.specs.Ring.{Ring, pow, sign}
 use Rattle.ring.specs.RingLaws.{one-⊗}
 use Rattle.residue.specs.Prime.{Prime}
-use Rattle.residue.specs.Residue.{residues, res, val, val-𝟘, res-val}
-use Rattle.euclid.specs.Row.{trim, declared, degree, lead}
-use Rattle.euclid.specs.RowLaws.{Ended, trim-length, declared-length, ended-degree, ended-lead}
-use Rattle.euclid.specs.Division.{remainder, quotient, count}
+use Rattle.residue.specs.Residue.{residues, res, val, res-val}
+use Rattle.euclid.specs.Row.{declared, degree, lead}
+use Rattle.euclid.specs.RowLaws.{trim-length, ended-degree, ended-lead}
+use Rattle.euclid.specs.Division.{remainder, count}
 use Rattle.euclid.specs.DivisionLaws.{remainder-length}
 use Rattle.euclid.specs.Sequence.{monic, following, sequence, turns, final, leads, byLast, formula, steps}
-use Rattle.euclid.specs.MonicLaws.{monic-length, monic-declared, monic-last, monic-ended}
-use Rattle.euclid.specs.FollowingLaws.{Neighbours, next, next-neighbours, following-none, following-some}
+use Rattle.euclid.specs.MonicLaws.{monic-length, monic-declared, monic-last}
+use Rattle.euclid.specs.FollowingLaws.{Neighbours, next, following-none, following-some}
 use Rattle.euclid.specs.StepsLaws.{steps-bound}
 use Rattle.euclid.specs.SequenceLaws.{formula-step, formula-head}
 use Rattle.rows.specs.Last.{lastRow, Lies}

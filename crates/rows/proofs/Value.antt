@@ -2,12 +2,12 @@
 --
 --   sign-even, sign-odd    (-1)^n by the last binary digit of n
 --   val-is                 a number below p is the number of its residue
-use Prim.Native.Nat.{ℕ, zero, suc, _+_, _*_, _-_, _%_, _/_, _<_, _≤_}
+use Prim.Native.Nat.{ℕ, _+_, _-_, _%_, _/_, _<_}
 use native.Mathlib.Omega.{arith}
-use mathlib.Core.Path.{_≡_, refl, sym, ap, _∙_}
+use mathlib.Core.Path.{_≡_, sym, ap, _∙_}
 use Rattle.ring.specs.Ring.{Ring, sign}
 use Rattle.ring.specs.RingLaws.{one-⊗, zero-⊕, neg-⊗, sign-add, sign-sq}
-use Rattle.residue.specs.Residue.{residues, res, val, val-res-small, val-lt, res-val, res-zero}
+use Rattle.residue.specs.Residue.{residues, res, val, val-res-small, res-zero}
 use Rattle.residue.specs.Computed.{difference-res}
 
 module _ (p : ℕ) where

@@ -8,7 +8,6 @@
 --   work-none             a row no longer than d stays
 --   work-last             at 0 the row is remainder and quotient of a
 use Prim.Native.Nat.{ℕ, suc, _+_, _-_, _*_, _%_, _<_, _≤_}
-use native.Mathlib.Nat.{mod-lt}
 use native.Mathlib.Omega.{arith}
 use mathlib.Core.List.{List, [], _∷_, _++_, append-assoc, append-nil}
 use mathlib.Core.Path.{_≡_, sym, ap, _∙_}

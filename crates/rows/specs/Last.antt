@@ -5,7 +5,6 @@
 --   chosen side u w            the row u for side 0, else w
 --   Lies row u w side len      row is the front of that side, len entries long
 use Prim.Native.Nat.{ℕ, zero, suc, _≤_}
-use mathlib.Core.Bool.{Bool, true, false}
 use mathlib.Core.List.{List, [], _∷_}
 use mathlib.Core.Path.{_≡_}
 use lib.Dec.{ltb}

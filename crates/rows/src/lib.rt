@@ -242,6 +242,16 @@ pub fn resultant_in(p: u32, u: &mut [u32], w: &mut [u32]) -> Found
     euclid(p, u, w)
 }
 
+// The front of the work row filled with r
+fn copy(work: &mut [u32], r: &[u32])
+    requires { ⌜ length (now r) ≤ length (now work) ⌝ }
+    ensures { λ _. ⌜ now (work .exit) ≡ now (r .entry) ++ drop (length (now (r .entry))) (now (work .entry)) ⌝ }
+{
+    for i in 0..r.len() {
+        work[i] = r[i];
+    }
+}
+
 // The row resultant of two lent rows, which stay as they are
 pub fn resultant(p: u32, a: &[u32], b: &[u32]) -> Found
     requires { ⌜ 2 ≤ p ⌝ }
@@ -256,14 +266,4 @@ pub fn resultant(p: u32, a: &[u32], b: &[u32]) -> Found
     copy(&mut u, a);
     copy(&mut w, b);
     resultant_in(p, &mut u[..a.len()], &mut w[..b.len()])
-}
-
-// The front of the work row filled with r
-fn copy(work: &mut [u32], r: &[u32])
-    requires { ⌜ length (now r) ≤ length (now work) ⌝ }
-    ensures { λ _. ⌜ now (work .exit) ≡ now (r .entry) ++ drop (length (now (r .entry))) (now (work .entry)) ⌝ }
-{
-    for i in 0..r.len() {
-        work[i] = r[i];
-    }
 }

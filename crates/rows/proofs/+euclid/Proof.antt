@@ -73,13 +73,16 @@ module _ (t : ℕ) where
     abbrev division : euclid-lts.After-divided (callees t) (euclid-at t) euclid.Post
     division = c .before .before .before .before .before .before .before .before
 
+    -- what it says of the rows rs
+    abbrev Says : List (List ℕ) → Type 0
+    Says rs = Answer (p division) rs (c .euclid .last .1 .0) (c .euclid .last .1 .1 .0) (c .euclid .result .value) (c .euclid .result .steps) (c .euclid .result .side) (c .euclid .result .len)
+
     on : Neighbours (p division) (monic (p division) (b division)) (next (p division) (a division) (b division))
     on = more division (c .before .before .before .if2 .left) .0
 
-    inner : Answer (p division) (sequence (p division) (monic (p division) (b division)) (next (p division) (a division) (b division))) (c .euclid .last .1 .0) (c .euclid .last .1 .1 .0) (c .euclid .result .value) (c .euclid .result .steps) (c .euclid .result .side) (c .euclid .result .len)
+    inner : Says (sequence (p division) (monic (p division) (b division)) (next (p division) (a division) (b division)))
     inner =
-        subst₂ (λ (d l : List ℕ). Answer (p division) (sequence (p division) d l) (c .euclid .last .1 .0) (c .euclid .last .1 .1 .0) (c .euclid .result .value) (c .euclid .result .steps) (c .euclid .result .side) (c .euclid .result .len))
-        (division .divided .ensures .0) (part division) (c .euclid .ensures)
+        subst₂ (λ (d l : List ℕ). Says (sequence (p division) d l)) (division .divided .ensures .0) (part division) (c .euclid .ensures)
 
   -- after the value is turned
   module _ (c : euclid-lts.After-turn (callees t) (euclid-at t) euclid.Post) where

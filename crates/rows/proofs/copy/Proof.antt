@@ -7,8 +7,6 @@ use lib.ListN.{length}
 use Rattle.rows.proofs.Copied.{Copied, copied-first, copied-more, copied-last}
 use Rattle.rows.proofs.copy.Statement.{statement}
 use Rattle.rows.proofs.copy.Tie as tie
-use Rattle.rows.proofs.copy.Reads as reads
-use Rattle.rows.proofs.copy.Lts as lts
 
 abbrev Inv-loop : tie.InvT-loop
 Inv-loop work₀ r i₀ i-end work i = Copied work₀ r work i
@@ -16,43 +14,33 @@ Inv-loop work₀ r i₀ i-end work i = Copied work₀ r work i
 abbrev μ-loop : tie.MeasureT-loop
 μ-loop work₀ r i₀ i-end work i = length r - i
 
--- src/lib.rt:266:5
 loop-holds : tie.Need-loop-holds Inv-loop μ-loop
 loop-holds c = copied-first
 
--- src/lib.rt:267:19
 mul-work : tie.Need-mul-work Inv-loop μ-loop
 mul-work c = search needs
 
--- src/lib.rt:267:19
 shared-slice-read-work : tie.Need-shared-slice-read-work Inv-loop μ-loop
 shared-slice-read-work c = search needs
 
--- src/lib.rt:267:9
 mul-work-2 : tie.Need-mul-work-2 Inv-loop μ-loop
 mul-work-2 c = search needs
 
--- src/lib.rt:267:9
 slice-write-work : tie.Need-slice-write-work Inv-loop μ-loop
 slice-write-work c = search needs
 
--- src/lib.rt:266:9
 add-i : tie.Need-add-i Inv-loop μ-loop
 add-i c = search needs
 
--- src/lib.rt:266:5
 loop-less : tie.Need-loop-less Inv-loop μ-loop
 loop-less c = search needs
 
--- src/lib.rt:266:5
 loop-again : tie.Need-loop-again Inv-loop μ-loop
 loop-again c = copied-more (c .before .before .loop .inv) (c .before .before .before .pre) (c .before .loop-test .taken) refl
 
--- src/lib.rt:262:1
 same-length : tie.Need-same-length Inv-loop μ-loop
 same-length c = c .before .loop .inv .long
 
--- src/lib.rt:262:1
 returns : tie.Need-returns Inv-loop μ-loop
 returns c = copied-last (c .before .loop .inv) (omega arith)
 

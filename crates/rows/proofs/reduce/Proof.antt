@@ -1,14 +1,9 @@
 -- `rows::reduce`: each turn divides one place more, from the top of the quotient down.
-use Prim.Native.Nat.{ℕ, _+_, _*_, _-_, _%_, _≤_, _<_}
+use Prim.Native.Nat.{_-_}
 use native.Mathlib.Omega.{arith}
 use native.Mathlib.Nat.{mod-lt}
-use mathlib.Core.Path.{_≡_, refl, sym, ap, _∙_}
-use mathlib.Core.List.{List}
 use borrow.Author.Needs.{needs}
-use borrow.Rule.Slice.PartMut.{same-len-mid}
-use lib.ListN.{length, getD, length-drop}
-use Rattle.euclid.specs.RowLaws.{Below, declared-length}
-use Rattle.rows.proofs.Bounds.{below-drop}
+use Rattle.rows.proofs.Bounds.{declared-minus, below-drop}
 use Rattle.rows.proofs.Work.{Work, work-first, work-more, work-last, part-end, part-length}
 use Rattle.rows.proofs.reduce.Statement.{statement}
 use Rattle.rows.proofs.reduce.Tie as tie
@@ -28,7 +23,7 @@ sub-k c = search needs
 loop-holds : tie.Need-loop-holds Inv-loop μ-loop
 loop-holds c =
     let start = c .before .before in
-    work-first _ _ _ _ (omega arith) (omega (arith, declared-length (start .args .b .now) (omega arith))) (omega arith) (start .pre .1 .1 .1 .1 .0)
+    work-first _ _ _ _ (omega arith) (declared-minus (start .args .b .now)) (omega arith) (start .pre .1 .1 .1 .1 .0)
 
 sub-k-2 : tie.Need-sub-k-2 Inv-loop μ-loop
 sub-k-2 c = search needs
@@ -88,7 +83,7 @@ loop-again : tie.Need-loop-again Inv-loop μ-loop
 loop-again c =
     let start = c .before .before .before .before .before .before .before .before .before .before in
     let loop = c .before .before .before .before .before .before .before .loop in
-    work-more _ _ _ _ (omega arith) (omega (arith, declared-length (start .args .b .now) (omega arith))) (omega arith) (start .pre .1 .1 .1 .1 .0) (loop .inv) (omega arith) (start .pre .1 .0) (c .before .before .before .before .mul .ensures) (c .before .before .subtract .ensures)
+    work-more _ _ _ _ (omega arith) (declared-minus (start .args .b .now)) (omega arith) (start .pre .1 .1 .1 .1 .0) (loop .inv) (omega arith) (start .pre .1 .0) (c .before .before .before .before .mul .ensures) (c .before .before .subtract .ensures)
 
 same-length : tie.Need-same-length Inv-loop μ-loop
 same-length c = c .before .loop .inv .long
@@ -96,7 +91,7 @@ same-length c = c .before .loop .inv .long
 returns : tie.Need-returns Inv-loop μ-loop
 returns c =
     let start = c .before .before .before .before in
-    work-last _ _ _ _ (omega arith) (omega (arith, declared-length (start .args .b .now) (omega arith))) (omega arith) (start .pre .1 .1 .1 .1 .0) (c .before .loop .inv) (omega arith)
+    work-last _ _ _ _ (omega arith) (declared-minus (start .args .b .now)) (omega arith) (start .pre .1 .1 .1 .1 .0) (c .before .loop .inv) (omega arith)
 
 pub reduce-spec : {M : Type 1} → statement M
 reduce-spec =

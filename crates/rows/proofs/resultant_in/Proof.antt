@@ -8,71 +8,55 @@ use Rattle.residue.specs.Residue.{val-lt}
 use Rattle.rows.proofs.Order.{shorter-rows, shorter-answer, longer-rows, longer-answer}
 use Rattle.rows.proofs.resultant_in.Statement.{statement}
 use Rattle.rows.proofs.resultant_in.Tie as tie
-use Rattle.rows.proofs.resultant_in.Reads as reads
-use Rattle.rows.proofs.resultant_in.Lts as lts
-use Rattle.rows.proofs.euclid.Reads as euclid-reads
-use Rattle.rows.proofs.signed.Reads as signed-reads
 
--- src/lib.rt:233:22
 sub-turns : tie.Need-sub-turns
 sub-turns c = search needs
 
--- src/lib.rt:233:38
 sub-turns-2 : tie.Need-sub-turns-2
 sub-turns-2 c = search needs
 
--- src/lib.rt:233:21
 mul-turns : tie.Need-mul-turns
 mul-turns c =
     let start = c .before .before .before in
-    omega
-    (arith,
-    mul-le-mul {n₁ = length (start .args .u .now) - 1} {m₁ = length (start .args .w .now) - 1} {n₂ = 16} {m₂ = 16} (omega (arith, start .pre .1 .1 .0 .short)) (omega (arith, start .pre .1 .1 .1 .short)))
+    omega (
+      arith,
+      mul-le-mul {n₁ = length (start .args .u .now) - 1} {m₁ = length (start .args .w .now) - 1} {n₂ = 16} {m₂ = 16} (omega (arith, start .pre .1 .1 .0 .short)) (omega (arith, start .pre .1 .1 .1 .short)),
+    )
 
--- src/lib.rt:234:13
 euclid-requires : tie.Need-euclid-requires
 euclid-requires c κs =
     let start = c .before .before .before .before .before in
     (start .pre .0, (start .pre .1 .0, (shorter-rows (start .args .p) (start .args .u .now) (start .args .w .now) (start .pre .1 .1 .0) (start .pre .1 .1 .1) (c .before .before .if1 .taken), start .pre .1 .1 .1 .short)))
 
--- src/lib.rt:236:20
 signed-requires : tie.Need-signed-requires
 signed-requires c κs = rw (c .before .before .before .before .euclid .ensures .0) (val-lt (c .before .before .before .before .before .before .before .before .before .before .args .p) (omega (arith, c .before .before .before .before .before .before .before .before .before .before .pre .0)) _)
 
--- src/lib.rt:238:19
 sub-t18 : tie.Need-sub-t18
 sub-t18 c = search needs
 
--- src/lib.rt:235:9
 same-length : tie.Need-same-length
 same-length c = search needs
 
--- src/lib.rt:235:9
 same-length-2 : tie.Need-same-length-2
 same-length-2 c = search needs
 
--- src/lib.rt:235:9
 returns : tie.Need-returns
 returns c =
     let start = c .before .before .before .before .before .before .before .before .before .before .before .before in
     let call = c .before .before .before .before .before .before in
     shorter-answer (start .args .p) (start .args .u .now) (start .args .w .now) (start .pre .1 .1 .0) (start .pre .1 .1 .1) (c .before .before .before .before .before .before .before .before .before .if1 .taken) (call .euclid .result .side) (call .euclid .ensures) (c .before .signed .ensures .0) (c .before .signed .ensures .1)
 
--- src/lib.rt:242:5
 euclid-requires-2 : tie.Need-euclid-requires-2
 euclid-requires-2 c κs =
     let start = c .before .before .before .before .before in
     (start .pre .0, (start .pre .1 .0, (longer-rows (start .args .p) (start .args .u .now) (start .args .w .now) (start .pre .1 .1 .0) (start .pre .1 .1 .1) (c .before .before .if1 .left), start .pre .1 .1 .0 .short)))
 
--- src/lib.rt:223:1
 same-length-3 : tie.Need-same-length-3
 same-length-3 c = search needs
 
--- src/lib.rt:223:1
 same-length-4 : tie.Need-same-length-4
 same-length-4 c = search needs
 
--- src/lib.rt:223:1
 returns-2 : tie.Need-returns-2
 returns-2 c =
     let start = c .before .before .before .before .before .before .before .before .before .before in

@@ -1,9 +1,7 @@
 -- `rows::subtract`: each turn sets one place.
-use Prim.Native.Nat.{_-_, _<_}
+use Prim.Native.Nat.{_-_}
 use native.Mathlib.Omega.{arith}
-use mathlib.Core.Path.{subst, sym}
 use borrow.Author.Needs.{needs}
-use lib.ListN.{length-set}
 use Rattle.rows.proofs.Places.{Partly, partly-first, partly-read, partly-more, partly-last}
 use Rattle.rows.proofs.subtract.Statement.{statement}
 use Rattle.rows.proofs.subtract.Tie as tie
