@@ -1,0 +1,42 @@
+// Offers to a sound job: the value kept at a point, the number of a point, a single offer and a lot.
+// What a sound record holds is taken for granted here (Standing): a call checks its record once, before it comes here.
+use job::Job;
+use job::JobAnswer;
+ghost use mathlib.Core.Path.{_≡_};
+ghost use mathlib.Core.Bool.{true};
+ghost use mathlib.Core.List.{_++_};
+ghost use Prim.Native.Nat.{_<_, _≤_};
+ghost use lib.ListN.{length, take, drop};
+ghost use Rattle.residue.specs.Prime.{Prime};
+ghost use Rattle.scope.specs.Pair.{tables};
+ghost use Rattle.scope.specs.Point.{usable, kept, needed};
+ghost use Rattle.scope.specs.Number.{among, pointNumber};
+ghost use Rattle.points.specs.Table.{Table};
+ghost use Rattle.job.specs.Job.{pairOf, keptPoints, stored};
+ghost use Rattle.job.specs.Calls;
+ghost use Rattle.job.specs.Standing.{Standing};
+
+// The value kept at a usable point: the row resultant of the two polynomials there
+pub fn kept_at(
+    p: u32,
+    ta: &[u32],
+    m: usize,
+    da: usize,
+    tb: &[u32],
+    n: usize,
+    db: usize,
+    a: u32,
+) -> u32
+    requires { ⌜ 2 ≤ p ⌝ }
+    requires { ⌜ Prime p ⌝ }
+    requires { ⌜ Table m da (now ta) ⌝ }
+    requires { ⌜ Table n db (now tb) ⌝ }
+    requires { ⌜ usable (tables p m 16 n 16 (now ta) (now tb)) a ≡ true ⌝ }
+    ensures { λ r. ⌜ r ≡ kept (tables p m 16 n 16 (now (ta .entry)) (now (tb .entry))) a ⌝ }
+{
+    let mut u = [0u32; 17];
+    let mut w = [0u32; 17];
+    points::row_at(p, ta, m, da, a, &mut u);
+    points::row_at(p, tb, n, db, a, &mut w);
+    rows::resultant_in(p, &mut u[..m + 1], &mut w[..n + 1]).value
+}
