@@ -40,3 +40,72 @@ pub fn kept_at(
     points::row_at(p, tb, n, db, a, &mut w);
     rows::resultant_in(p, &mut u[..m + 1], &mut w[..n + 1]).value
 }
+
+// Whether a is among the first count points
+pub fn is_among(points: &[u32], count: usize, a: u32) -> bool
+    requires { ⌜ count ≤ length (now points) ⌝ }
+    ensures { λ r. ⌜ r ≡ among a (take count (now (points .entry))) ⌝ }
+{
+    for i in 0..count {
+        if a == points[i] {
+            return true;
+        }
+    }
+    false
+}
+
+// The value kept at a usable point of a sound job
+fn kept_value(j: Job, a: u32) -> u32
+    requires { ⌜ Standing j ⌝ }
+    requires { ⌜ usable (pairOf j) a ≡ true ⌝ }
+    ensures { λ r. ⌜ r ≡ kept (pairOf j) a ⌝ }
+{
+    let ta = j.a;
+    let tb = j.b;
+    kept_at(
+        j.p,
+        &ta,
+        j.m as usize,
+        j.da as usize,
+        &tb,
+        j.n as usize,
+        j.db as usize,
+        a,
+    )
+}
+
+// Whether a point is usable in a sound job
+fn usable_point(j: Job, a: u32) -> bool
+    requires { ⌜ Standing j ⌝ }
+    ensures { λ r. ⌜ r ≡ usable (pairOf j) a ⌝ }
+{
+    let ta = j.a;
+    let tb = j.b;
+    points::usable_at(
+        j.p,
+        &ta,
+        j.m as usize,
+        j.da as usize,
+        &tb,
+        j.n as usize,
+        j.db as usize,
+        a,
+    )
+}
+
+// The number of a point, before it is kept or surplus: 10, 12, 11 or 0
+pub fn point_number(j: Job, a: u32) -> u32
+    requires { ⌜ Standing j ⌝ }
+    ensures { λ r. ⌜ r ≡ pointNumber (pairOf j) (keptPoints j) a ⌝ }
+{
+    if j.p <= a {
+        return 10;
+    }
+    if is_among(&j.points, j.count as usize, a) {
+        return 12;
+    }
+    if usable_point(j, a) {
+        return 0;
+    }
+    11
+}
