@@ -2,3 +2,4 @@
 pub mod WorkRows
 pub mod Record
 pub mod Points
+pub mod Surplus

@@ -109,3 +109,26 @@ pub fn point_number(j: Job, a: u32) -> u32
     }
     11
 }
+
+// How many points are needed: D + 1
+pub fn needed_for(j: Job) -> u32
+    requires { ⌜ Standing j ⌝ }
+    ensures { λ r. ⌜ r ≡ needed (pairOf j) ⌝ }
+{
+    j.n * j.da + j.m * j.db + 1
+}
+
+// Whether the polynomial through the kept pairs takes the value at a that would be kept there
+pub fn agrees(j: Job, a: u32) -> bool
+    requires { ⌜ Standing j ⌝ }
+    requires { ⌜ j .count ≡ needed (pairOf j) ⌝ }
+    requires { ⌜ usable (pairOf j) a ≡ true ⌝ }
+    ensures { λ r. ⌜ r ≡ Calls.agrees j a ⌝ }
+{
+    let count = j.count as usize;
+    let xs = j.points;
+    let vs = j.values;
+    let mut t = [0u32; 513];
+    points::interpolate(j.p, count, &xs, &vs, &mut t);
+    points::value_at(j.p, &t, 0, count - 1, a) == kept_value(j, a)
+}
