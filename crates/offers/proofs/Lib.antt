@@ -3,3 +3,4 @@ pub mod WorkRows
 pub mod Record
 pub mod Points
 pub mod Surplus
+pub mod Numbers

@@ -132,3 +132,39 @@ pub fn agrees(j: Job, a: u32) -> bool
     points::interpolate(j.p, count, &xs, &vs, &mut t);
     points::value_at(j.p, &t, 0, count - 1, a) == kept_value(j, a)
 }
+
+// The job with the point a and its value kept
+fn store(j: Job, a: u32) -> Job
+    requires { ⌜ Standing j ⌝ }
+    requires { ⌜ usable (pairOf j) a ≡ true ⌝ }
+    requires { ⌜ j .count < needed (pairOf j) ⌝ }
+    ensures { λ r. ⌜ r ≡ stored j a ⌝ }
+{
+    let at = j.count as usize;
+    let value = kept_value(j, a);
+    let mut k = j;
+    k.points[at] = a;
+    k.values[at] = value;
+    k.count = j.count + 1;
+    k
+}
+
+// A single offer
+pub fn offer_sound(j: Job, a: u32) -> JobAnswer
+    requires { ⌜ Standing j ⌝ }
+    ensures { λ r. ⌜ r .number ≡ Calls.offerNumber j a ⌝ }
+    ensures { λ r. ⌜ r .job ≡ Calls.offered j a ⌝ }
+{
+    let number = point_number(j, a);
+    if number != 0 {
+        return JobAnswer { number, job: j };
+    }
+    if j.count < needed_for(j) {
+        let k = store(j, a);
+        return JobAnswer { number: 0, job: k };
+    }
+    if agrees(j, a) {
+        return JobAnswer { number: 1, job: j };
+    }
+    JobAnswer { number: 13, job: j }
+}
