@@ -4,3 +4,4 @@ pub mod Record
 pub mod Points
 pub mod Surplus
 pub mod Numbers
+pub mod Lots

@@ -168,3 +168,19 @@ pub fn offer_sound(j: Job, a: u32) -> JobAnswer
     }
     JobAnswer { number: 13, job: j }
 }
+
+// The points of a lot left to right, each as a single offer; one answer byte for each
+pub fn lot_sound(j: Job, xs: &[u32], answers: &mut [u8]) -> Job
+    requires { ⌜ Standing j ⌝ }
+    requires { ⌜ length (now xs) ≤ length (now answers) ⌝ }
+    ensures { λ r. ⌜ r ≡ Calls.lotted j (now (xs .entry)) ⌝ }
+    ensures { λ _. ⌜ now (answers .exit) ≡ Calls.lotAnswers j (now (xs .entry)) ++ drop (length (now (xs .entry))) (now (answers .entry)) ⌝ }
+{
+    let mut k = j;
+    for i in 0..xs.len() {
+        let answer = offer_sound(k, xs[i]);
+        answers[i] = answer.number as u8;
+        k = answer.job;
+    }
+    k
+}
