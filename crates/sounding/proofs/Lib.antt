@@ -1,2 +1,4 @@
 -- Facts that the proofs of the functions cite.
+pub mod Tests
 pub mod Zeros
+pub mod Tables
