@@ -4,14 +4,19 @@
 --   horner-first           before the first step
 --   horner-next            one step
 --   horner-last            after the last: the value of f 0, .., f d
-use Prim.Native.Nat.{ℕ, zero, suc, _+_, _*_, _-_, _%_, _≤_, _<_}
-use native.Mathlib.Nat.{add-zero, mod-lt}
+--   from-zero              the entries from 0 on are those of the list
+--   value-below            a residue's number is below p
+use Prim.Native.Nat.{ℕ, suc, _+_, _*_, _-_, _%_, _≤_, _<_}
+use native.Mathlib.Nat.{add-zero, zero-add, mod-lt}
 use native.Mathlib.Omega.{arith}
-use mathlib.Core.Path.{_≡_, refl, sym, ap, _∙_}
+use mathlib.Core.List.{List}
+use mathlib.Core.Path.{_≡_, sym, ap, _∙_}
+use lib.ListN.{getD}
 use Rattle.ring.specs.Ring.{Ring}
 use Rattle.ring.specs.Sum.{sum}
-use Rattle.residue.specs.Residue.{residues, res, val, res-zero, res-+, res-*, res-mod, val-res-small}
+use Rattle.residue.specs.Residue.{residues, res, val, res-zero, res-+, res-*, res-mod, val-res-small, val-lt}
 use Rattle.polynomial.specs.Value.{value, value-ext, value-step}
+use Rattle.points.specs.Step.{valueOf}
 
 module _ (p : ℕ) (f : ℕ → ℕ) (a d : ℕ) where
   open Ring (residues p) using (C, _⊕_, _⊗_, 𝟘, ⊕-comm, ⊗-comm)
@@ -73,3 +78,13 @@ module _ (p : ℕ) (f : ℕ → ℕ) (a d : ℕ) where
 
       here : (j : ℕ) → k + j ≡ j
       here j = omega arith
+
+pub from-zero : (p n x : ℕ) (l : List ℕ) {r : ℕ} → r ≡ val p (value (residues p) n (λ j. res p (getD l (0 + j) 0)) (res p x)) → r ≡ valueOf p n l x
+unfolding valueOf
+from-zero p n x l e =
+    e
+    ∙ ap (val p) (value-ext (residues p) n (λ j. res p (getD l (0 + j) 0)) (λ j. res p (getD l j 0)) (res p x)
+    (λ j b. ap (λ (i : ℕ). res p (getD l i 0)) (zero-add j)))
+
+pub value-below : (p : ℕ) → 0 < p → (x : Ring.C (residues p)) {r : ℕ} → r ≡ val p x → r < p
+value-below p pos x e = omega (arith, val-lt p pos x)

@@ -2,4 +2,7 @@
 pub mod Horner
 pub mod Stores
 pub mod Searches
+pub mod Linear
+pub mod Newton
 pub mod Rows
+pub mod Counting

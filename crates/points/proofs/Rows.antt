@@ -45,9 +45,7 @@ pub row-stored : (p m a : ℕ) (A : ℕ → ℕ → ℕ) {i : ℕ} {l k : List �
     → k ≡ rowAt p m 16 A a ++ drop (m + 1) l
 unfolding rowAt
 row-stored p m a A {i} {l} {k} h e room =
-    stored-list f h (omega arith)
-    ∙ ap (λ (n : ℕ). tabulate n f ++ drop n l) e
-    ∙ ap (λ (n : ℕ). tabulate n f ++ drop (m + 1) l) (add-one m)
+    stored-list f (m + 1) h e room ∙ ap (λ (n : ℕ). tabulate n f ++ drop (m + 1) l) (add-one m)
   where
     f : ℕ → ℕ
     f r = valueAt p 16 A r a

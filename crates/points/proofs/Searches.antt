@@ -2,16 +2,17 @@
 --
 --   some-nonzero      f i is not 0, so some f k is not
 --   none-nonzero      every f k is 0
+--   not-all, all      the same, as a test that all are 0
 --   Above e o j       no index above j, up to e, passes o
 --   above-first       nothing stands above e
 --   above-next        j fails too
 --   above-found       j passes: it is the largest
 --   above-none        nothing is left but 0
-use Prim.Native.Nat.{ℕ, zero, suc, _-_, _<_, _≤_}
+use Prim.Native.Nat.{ℕ, _-_, _<_, _≤_}
 use native.Mathlib.Decide.{ℕ-discrete}
 use native.Mathlib.Omega.{arith}
 use mathlib.Core.Bool.{Bool, true, false, not}
-use mathlib.Core.Path.{_≡_, ap, _∙_}
+use mathlib.Core.Path.{_≡_, sym, ap, _∙_}
 use lib.Dec.{eqb}
 use borrow.Author.Tests.{eq-eqb, ne-eqb}
 use Rattle.scope.specs.Pair.{some, largest}
@@ -22,6 +23,12 @@ some-nonzero n f i l h = one-some n (λ k. not (eqb (f k) 0)) i l (ap not (ne-eq
 
 pub none-nonzero : (n : ℕ) (f : ℕ → ℕ) → ((k : ℕ) → k < n → f k ≡ 0) → some n (λ k. not (eqb (f k) 0)) ≡ false
 none-nonzero n f h = none-some n (λ k. not (eqb (f k) 0)) (λ k l. ap not (eq-eqb (f k) 0 (h k l)))
+
+pub not-all : (n : ℕ) (f : ℕ → ℕ) (i : ℕ) → i < n → (f i ≡ 0 → ⊥) → false ≡ not (some n (λ k. not (eqb (f k) 0)))
+not-all n f i l h = sym (ap not (some-nonzero n f i l h))
+
+pub all : (n : ℕ) (f : ℕ → ℕ) → ((k : ℕ) → k < n → f k ≡ 0) → true ≡ not (some n (λ k. not (eqb (f k) 0)))
+all n f h = sym (ap not (none-nonzero n f h))
 
 module _ (e : ℕ) (o : ℕ → Bool) where
   pub record Above (j : ℕ) : Type 0 where
