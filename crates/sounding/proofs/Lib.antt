@@ -2,3 +2,5 @@
 pub mod Tests
 pub mod Zeros
 pub mod Tables
+pub mod Pairs
+pub mod Record

@@ -1,9 +1,16 @@
 // The test that every offer, lot and read makes once per call: whether a record is sound.
+use job::Job;
 ghost use mathlib.Core.Path.{_≡_};
-ghost use Prim.Native.Nat.{_≤_};
-ghost use lib.ListN.{length, drop};
-ghost use Rattle.job.specs.Sound.{zeros};
-ghost use Rattle.sounding.specs.Parts.{soundTable};
+ghost use mathlib.Core.Bool.{true};
+ghost use Prim.Native.Nat.{_+_, _*_, _<_, _≤_};
+ghost use lib.ListN.{length, take, drop};
+ghost use Rattle.residue.specs.Prime.{Prime};
+ghost use Rattle.scope.specs.Pair.{tables};
+ghost use Rattle.scope.specs.Point.{usable, kept, enough};
+ghost use Rattle.scope.specs.Number.{among};
+ghost use Rattle.points.specs.Table.{Table};
+ghost use Rattle.job.specs.Sound.{zeros, soundPair, soundPoints, sound?};
+ghost use Rattle.sounding.specs.Parts.{soundNumbers, soundTable, soundTables, Degrees, keptAt, keptPairs};
 
 // Whether every entry from k on is 0
 pub fn zeros_from(t: &[u32], k: usize) -> bool
@@ -38,4 +45,78 @@ fn sound_table(p: u32, t: &[u32], m: u32, d: u32) -> bool
         return false;
     }
     d as usize == points::true_degree(t, rows)
+}
+
+// How many points a pair of these degrees needs: D + 1
+fn points_needed(m: usize, da: usize, n: usize, db: usize) -> usize
+    requires { ⌜ m ≤ 16 ⌝ }
+    requires { ⌜ da ≤ 16 ⌝ }
+    requires { ⌜ n ≤ 16 ⌝ }
+    requires { ⌜ db ≤ 16 ⌝ }
+    ensures { λ r. ⌜ r ≡ n * da + m * db + 1 ⌝ }
+{
+    n * da + m * db + 1
+}
+
+// Whether as many usable points exist as are needed
+fn enough_points<'a>(
+    p: u32,
+    ta: &'a [u32],
+    m: usize,
+    da: usize,
+    tb: &'a [u32],
+    n: usize,
+    db: usize,
+) -> bool
+    requires { ⌜ 0 < p ⌝ }
+    requires { ⌜ Degrees m da (now ta) ⌝ }
+    requires { ⌜ Degrees n db (now tb) ⌝ }
+    ensures { λ r. ⌜ r ≡ enough (tables p m 16 n 16 (now (ta .entry)) (now (tb .entry))) ⌝ }
+{
+    let wanted = points_needed(m, da, n, db);
+    points::enough_usable(p, ta, m, da, tb, n, db, wanted)
+}
+
+// Whether the modulus and the degrees in x are those of an accepted opening
+fn sound_numbers(p: u32, m: u32, n: u32) -> bool
+    ensures { λ r. ⌜ r ≡ soundNumbers p m n ⌝ }
+{
+    if checks::outside(p) {
+        return false;
+    }
+    if checks::composite(p) {
+        return false;
+    }
+    if checks::too_high(m) {
+        return false;
+    }
+    !checks::too_high(n)
+}
+
+// Whether both tables are, and as many usable points exist as they need
+fn sound_tables<'a>(p: u32, ta: &'a [u32], m: u32, da: u32, tb: &'a [u32], n: u32, db: u32) -> bool
+    requires { ⌜ 0 < p ⌝ }
+    requires { ⌜ length (now ta) ≡ 289 ⌝ }
+    requires { ⌜ m ≤ 16 ⌝ }
+    requires { ⌜ length (now tb) ≡ 289 ⌝ }
+    requires { ⌜ n ≤ 16 ⌝ }
+    ensures { λ r. ⌜ r ≡ soundTables p m da n db (now (ta .entry)) (now (tb .entry)) ⌝ }
+{
+    if !sound_table(p, ta, m, da) {
+        return false;
+    }
+    if !sound_table(p, tb, n, db) {
+        return false;
+    }
+    enough_points(p, ta, m as usize, da as usize, tb, n as usize, db as usize)
+}
+
+// Whether modulus, degrees and coefficients are those of an accepted opening
+pub fn sound_pair(j: Job) -> bool
+    ensures { λ r. ⌜ r ≡ soundPair j ⌝ }
+{
+    if !sound_numbers(j.p, j.m, j.n) {
+        return false;
+    }
+    sound_tables(j.p, &j.a, j.m, j.da, &j.b, j.n, j.db)
 }
