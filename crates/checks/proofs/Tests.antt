@@ -12,13 +12,14 @@
 --   zeros-all           every entry is passed
 --   last-none           a row with no entry is unended
 --   last-place          of any other row the last entry decides
+--   degrees-length      a row that is not refused is one entry longer than its declared degree
 --   prime-test          a test that says true of exactly the primes is prime?
-use Prim.Native.Nat.{ℕ, suc, _+_, _*_, _-_, _≤_, _<_}
+use Prim.Native.Nat.{ℕ, _+_, _*_, _-_, _≤_, _<_}
 use native.Mathlib.Nat.{add-mul, one-mul}
 use native.Mathlib.Numerals.{add-one}
 use native.Mathlib.Omega.{arith}
 use native.Mathlib.Decide.{decLt}
-use mathlib.Core.Bool.{Bool, true, false, cond, not, _||_}
+use mathlib.Core.Bool.{Bool, true, false, cond, not}
 use mathlib.Core.List.{List}
 use mathlib.Core.Logic.{_↔_}
 use mathlib.Core.Path.{_≡_, refl, sym, ap, _∙_}
@@ -32,6 +33,7 @@ use Rattle.euclid.specs.RowLaws.{declared-length}
 use Rattle.scope.specs.Pair.{size, place, term}
 use Rattle.scope.specs.Number.{over, noLead, unended, composite}
 use Rattle.scope.specs.Search.{none-some, one-some}
+use Rattle.checks.specs.Facts.{RowFacts}
 
 pub record Passed (p : ℕ) (t : List ℕ) (i : ℕ) : Type 0 where
   pub within : i ≤ length t
@@ -103,6 +105,9 @@ last-none r h = eq-eqb _ 0 (List·getD-eq-default r 0 (omega arith))
 pub last-place : (r : List ℕ) → 0 < length r → eqb (getD r (length r - 1) 0) 0 ≡ unended r
 unfolding unended
 last-place r h = let same : length r - 1 ≡ declared r = omega (arith, declared-length r h) in ap (λ (k : ℕ). eqb (getD r k 0) 0) same
+
+pub degrees-length : {p : ℕ} {a b : List ℕ} → RowFacts p a b → declared a + declared b ≡ (length a - 1) + (length b - 1)
+degrees-length {a = a} {b = b} facts = omega (arith, declared-length a (facts .endedA .0), declared-length b (facts .endedB .0))
 
 pub prime-test : (p : ℕ) (t : Bool) → (t ≡ true) ↔ Prime p → not t ≡ composite p
 unfolding composite

@@ -2,13 +2,15 @@
 --
 --   gives-true, gives-false   a refusal that applies gives its number; one that does not is passed over
 --   gives-none                a chain that ends in 0 passed its first refusal over, and its rest ends in 0
+--   both-none                 the same where the first refusal has two tests
 --   then-refused              a refusal is not changed by what is judged after it
 --   then-done                 where nothing was refused, what is judged after it decides
 --   then-none                 a chain that ends in 0 refused nothing, neither before nor after
 use Prim.Native.Nat.{ℕ, zero, suc, _<_}
 use native.Mathlib.Omega.{arith}
-use mathlib.Core.Bool.{Bool, true, false}
+use mathlib.Core.Bool.{Bool, true, false, _||_}
 use mathlib.Core.Path.{_≡_, refl, ap}
+use Rattle.scope.specs.Search.{or-false}
 use Rattle.scope.specs.Number.{_gives_otherwise_, _then_}
 
 pub gives-true : {t : Bool} (r s : ℕ) → t ≡ true → (t gives r otherwise s) ≡ r
@@ -23,6 +25,9 @@ pub gives-none : (t : Bool) (r s : ℕ) → 0 < r → (t gives r otherwise s) �
 unfolding _gives_otherwise_
 gives-none true r s h e = absurd (omega arith)
 gives-none false r s h e = (refl, e)
+
+pub both-none : (t u : Bool) (r s : ℕ) → 0 < r → ((t || u) gives r otherwise s) ≡ 0 → (t ≡ false) × (u ≡ false) × (s ≡ 0)
+both-none t u r s h e = let (none, rest) = gives-none (t || u) r s h e in (or-false t u none .0, or-false t u none .1, rest)
 
 pub then-refused : (r s : ℕ) → 0 < r → (r then s) ≡ r
 unfolding _then_

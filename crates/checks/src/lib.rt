@@ -5,6 +5,8 @@ ghost use Prim.Native.Nat.{_≤_};
 ghost use lib.ListN.{length};
 ghost use Rattle.scope.specs.Pair.{size};
 ghost use Rattle.scope.specs.Number;
+ghost use Rattle.checks.specs.Shape.{shapeNumber};
+ghost use Rattle.checks.specs.Parts.{modulusNumber, lengthsNumber, entriesNumber, divisionRowsNumber, tablesNumber};
 
 // 2: p < 2 or p >= 2^31
 pub fn outside(p: u32) -> bool
@@ -89,4 +91,133 @@ pub fn unended(r: &[u32]) -> bool
         return true;
     }
     r[r.len() - 1] == 0
+}
+
+// 2 and 3: what is refused of a modulus
+fn modulus_number(p: u32) -> u32
+    ensures { λ r. ⌜ r ≡ modulusNumber p ⌝ }
+{
+    if outside(p) {
+        return 2;
+    }
+    if composite(p) {
+        return 3;
+    }
+    0
+}
+
+// 4 and 5: what is refused of the lengths of two rows
+fn lengths_number(a: &[u32], b: &[u32]) -> u32
+    ensures { λ r. ⌜ r ≡ lengthsNumber (now (a .entry)) (now (b .entry)) ⌝ }
+{
+    if too_long(a) || too_long(b) {
+        return 4;
+    }
+    if empty(a) || empty(b) {
+        return 5;
+    }
+    0
+}
+
+// 6 and 7: what is refused of the entries of two rows
+fn entries_number(p: u32, a: &[u32], b: &[u32]) -> u32
+    ensures { λ r. ⌜ r ≡ entriesNumber p (now (a .entry)) (now (b .entry)) ⌝ }
+{
+    if over(p, a) || over(p, b) {
+        return 6;
+    }
+    if unended(a) || unended(b) {
+        return 7;
+    }
+    0
+}
+
+// 4, 6 and 15: what is refused of the rows of a division
+fn division_rows_number(p: u32, row: &[u32], b: &[u32]) -> u32
+    ensures { λ r. ⌜ r ≡ divisionRowsNumber p (now (row .entry)) (now (b .entry)) ⌝ }
+{
+    if too_long(row) || too_long(b) {
+        return 4;
+    }
+    if over(p, row) || over(p, b) {
+        return 6;
+    }
+    if unended(b) {
+        return 15;
+    }
+    0
+}
+
+// 5 to 7: what is refused of two tables whose degrees are at most 16
+fn tables_number(p: u32, m: u32, e: u32, n: u32, f: u32, s: &[u32], t: &[u32]) -> u32
+    requires { ⌜ m ≤ 16 ⌝ }
+    requires { ⌜ e ≤ 16 ⌝ }
+    requires { ⌜ n ≤ 16 ⌝ }
+    requires { ⌜ f ≤ 16 ⌝ }
+    ensures { λ r. ⌜ r ≡ tablesNumber p m e n f (now (s .entry)) (now (t .entry)) ⌝ }
+{
+    if misfit(m, e, s) || misfit(n, f, t) {
+        return 5;
+    }
+    if over(p, s) || over(p, t) {
+        return 6;
+    }
+    if no_lead(m, e, s) || no_lead(n, f, t) {
+        return 7;
+    }
+    0
+}
+
+// The row resultant: 2 to 7
+pub fn row_number(p: u32, a: &[u32], b: &[u32]) -> u32
+    ensures { λ r. ⌜ r ≡ Number.rowNumber p (now (a .entry)) (now (b .entry)) ⌝ }
+{
+    let modulus = modulus_number(p);
+    if modulus != 0 {
+        return modulus;
+    }
+    let lengths = lengths_number(a, b);
+    if lengths != 0 {
+        return lengths;
+    }
+    entries_number(p, a, b)
+}
+
+// The plain determinant: the same, then 17
+pub fn plain_number(p: u32, a: &[u32], b: &[u32]) -> u32
+    ensures { λ r. ⌜ r ≡ Number.plainNumber p (now (a .entry)) (now (b .entry)) ⌝ }
+{
+    let row = row_number(p, a, b);
+    if row != 0 {
+        return row;
+    }
+    if 6 < (a.len() - 1) + (b.len() - 1) {
+        return 17;
+    }
+    0
+}
+
+// Division in the work row: 2, 3, 4, 6, 15
+pub fn division_number(p: u32, row: &[u32], b: &[u32]) -> u32
+    ensures { λ r. ⌜ r ≡ Number.divisionNumber p (now (row .entry)) (now (b .entry)) ⌝ }
+{
+    let modulus = modulus_number(p);
+    if modulus != 0 {
+        return modulus;
+    }
+    division_rows_number(p, row, b)
+}
+
+// Opening: 2 to 7
+pub fn shape_number(p: u32, m: u32, e: u32, n: u32, f: u32, s: &[u32], t: &[u32]) -> u32
+    ensures { λ r. ⌜ r ≡ shapeNumber p m e n f (now (s .entry)) (now (t .entry)) ⌝ }
+{
+    let modulus = modulus_number(p);
+    if modulus != 0 {
+        return modulus;
+    }
+    if too_high(m) || too_high(e) || too_high(n) || too_high(f) {
+        return 4;
+    }
+    tables_number(p, m, e, n, f, s, t)
 }
