@@ -11,20 +11,25 @@ use mathlib.Core.Bool.{Bool, true, false, not, _&&_, and-assoc, and-eq-true-iff}
 use mathlib.Core.List.{List, [], _∷_, map}
 use mathlib.Core.Path.{_≡_, refl, sym, ap, _∙_, subst}
 use lib.Dec.{leb, eqb}
-use lib.ListN.{length, getD, take, drop}
-use borrow.Author.Tests.{not-true}
+use lib.ListN.{length, getD, take, drop, length-map}
+use mir.Val.{Val}
+use denote.Laws.{Is}
+use denote.Struct.Declared.{row}
+use borrow.Author.Tests.{not-true, eq-eqb, le-leb, lt-leb}
 use Rattle.residue.specs.Prime.{Modulus}
 use Rattle.scope.specs.Pair.{degreeA, degreeB, tables}
 use Rattle.scope.specs.Point.{kept, needed, enough}
 use Rattle.scope.specs.Number.{outside, composite, tooHigh, over, noLead}
+use Rattle.job.proofs.Job.{the-type}
 use Rattle.job.specs.declared.Job.{Job}
 use Rattle.job.specs.Job.{pairOf, keptPoints}
-use Rattle.job.specs.Sound.{zeros, same, good, soundPair, soundPoints}
+use Rattle.job.specs.Sound.{zeros, same, good, soundPair, soundPoints, shaped, sound?}
 use Rattle.job.specs.TestLaws.{modulus-tests, tooHigh-false}
+use Rattle.job.specs.StandingLaws.{needed-low}
 use Rattle.job.specs.SoundTests.{conj, Every, done, _also_, conj-each, every-conj}
-use Rattle.sounding.specs.Parts.{soundNumbers, soundTable, soundTables, Degrees, keptPairs}
+use Rattle.sounding.specs.Parts.{soundNumbers, soundTable, soundTables, Degrees, emptySlots, keptPairs}
 use Rattle.sounding.proofs.Tests.{failed, decided, agree}
-use Rattle.sounding.proofs.Tables.{tablesTests, table-degrees}
+use Rattle.sounding.proofs.Tables.{tablesTests, table-degrees, needed-is}
 
 and-left-comm : (a b c : Bool) → (a && (b && c)) ≡ (b && (a && c))
 and-left-comm true b c = refl
@@ -35,6 +40,9 @@ and-left-comm false false c = refl
 by-table : (x o o′ z z′ l l′ d d′ e : Bool)
     → (x && o && o′ && z && z′ && l && l′ && d && d′ && e) ≡ (x && ((o && z && l && d) && (o′ && z′ && l′ && d′) && e))
 by-table x o o′ z z′ l l′ d d′ e = simp (and-assoc, and-left-comm)
+
+by-slot : (x y z g s : Bool) → (x && y && z && g && s) ≡ (x && (y && z) && (g && s))
+by-slot x y z g s = simp and-assoc
 
 module _ (p m n : ℕ) where
   abbrev pub numberTests : List Bool
@@ -64,7 +72,17 @@ module _ (p m n : ℕ) where
       part : (k : ℕ) → getD numberTests k true ≡ true
       part = conj-each numberTests h
 
+-- a value of a declared type holds an array through a map that changes nothing
+long : (n : ℕ) (t : List ℕ) → length (map (λ x. x) t) ≡ n → length t ≡ n
+long n t h = sym (length-map t (λ x. x)) ∙ h
+
 module _ (j : Job) where
+  pub record Lengths : Type 0 where
+    pub a : length (j .a) ≡ 289
+    pub b : length (j .b) ≡ 289
+    pub points : length (j .points) ≡ 513
+    pub values : length (j .values) ≡ 513
+
   pair-parts : soundPair j ≡ (soundNumbers (j .p) (j .m) (j .n) && soundTables (j .p) (j .m) (j .da) (j .n) (j .db) (j .a) (j .b))
   unfolding soundPair soundNumbers soundTables soundTable degreeA degreeB pairOf tables
   pair-parts =
@@ -87,12 +105,12 @@ module _ (j : Job) where
     pub degrees-a : Degrees (j .m) (j .da) (j .a)
     pub degrees-b : Degrees (j .n) (j .db) (j .b)
 
-  pub pair-opened : length (j .a) ≡ 289 → length (j .b) ≡ 289 → soundPair j ≡ true → Opened
+  pub pair-opened : Lengths → soundPair j ≡ true → Opened
   unfolding soundTables
-  pair-opened long-a long-b h = record {
+  pair-opened l h = record {
     modulus = range .modulus;
-    degrees-a = table-degrees (j .p) (j .m) (j .da) (j .a) long-a (range .low-m) (part 0);
-    degrees-b = table-degrees (j .p) (j .n) (j .db) (j .b) long-b (range .low-n) (part 1);
+    degrees-a = table-degrees (j .p) (j .m) (j .da) (j .a) (l .a) (range .low-m) (part 0);
+    degrees-b = table-degrees (j .p) (j .n) (j .db) (j .b) (l .b) (range .low-n) (part 1);
   }
     where
       parts : (soundNumbers (j .p) (j .m) (j .n) ≡ true) × (soundTables (j .p) (j .m) (j .da) (j .n) (j .db) (j .a) (j .b) ≡ true)
@@ -104,20 +122,65 @@ module _ (j : Job) where
       part : (k : ℕ) → getD (tablesTests (j .p) (j .m) (j .da) (j .n) (j .db) (j .a) (j .b)) k true ≡ true
       part = conj-each (tablesTests (j .p) (j .m) (j .da) (j .n) (j .db) (j .a) (j .b)) (parts .1)
 
+  -- the number of kept points against the number needed
+  module _ (o : Opened) {w : ℕ} (e : w ≡ j .n * j .da + j .m * j .db + 1) where
+    needed-same : needed (pairOf j) ≡ w
+    unfolding pairOf tables
+    needed-same = needed-is (j .p) (o .degrees-a) (o .degrees-b) ∙ sym e
+
+    pub count-many : w < j .count → leb (j .count) (needed (pairOf j)) ≡ false
+    count-many h = lt-leb (j .count) (needed (pairOf j)) (omega (arith, needed-same))
+
+    pub count-few : j .count ≤ w → leb (j .count) (needed (pairOf j)) ≡ true
+    count-few h = le-leb (j .count) (needed (pairOf j)) (omega (arith, needed-same))
+
+    pub count-fits : j .count ≤ w → j .count ≤ 513
+    count-fits h = omega (arith, needed-same, needed-low j (o .degrees-a .rows) (o .degrees-b .rows))
+
   -- the parts of the test of the kept pairs
   abbrev pub pointTests : List Bool
   pointTests =
       leb (j .count) (needed (pairOf j))
-      ∷ zeros (drop (j .count) (j .points))
-      ∷ zeros (drop (j .count) (j .values))
+      ∷ emptySlots (j .points) (j .values) (j .count)
       ∷ keptPairs (pairOf j) (j .points) (j .values) (j .count)
       ∷ []
 
   point-parts : soundPoints j ≡ conj pointTests
-  unfolding soundPoints keptPairs keptPoints
+  unfolding soundPoints emptySlots keptPairs keptPoints
   point-parts =
-      and-assoc (leb (j .count) (needed (pairOf j)) && zeros (drop (j .count) (j .points)) && zeros (drop (j .count) (j .values)))
+      by-slot (leb (j .count) (needed (pairOf j))) (zeros (drop (j .count) (j .points))) (zeros (drop (j .count) (j .values)))
       (good (pairOf j) [] (keptPoints j)) (same (take (j .count) (j .values)) (map (kept (pairOf j)) (keptPoints j)))
 
   pub points-fail : (k : ℕ) → getD pointTests k true ≡ false → false ≡ soundPoints j
   points-fail k h = sym (point-parts ∙ failed pointTests k h)
+
+  pub points-decided : leb (j .count) (needed (pairOf j)) ≡ true → emptySlots (j .points) (j .values) (j .count) ≡ true
+      → {r : Bool} → r ≡ keptPairs (pairOf j) (j .points) (j .values) (j .count) → r ≡ soundPoints j
+  points-decided f s e = e ∙ sym (point-parts ∙ decided (f also s also done) (keptPairs (pairOf j) (j .points) (j .values) (j .count)))
+
+  pub record-shaped : Lengths → shaped j ≡ true
+  unfolding shaped
+  record-shaped l =
+      every-conj
+      (eq-eqb (length (j .a)) 289 (l .a)
+      also eq-eqb (length (j .b)) 289 (l .b)
+      also eq-eqb (length (j .points)) 513 (l .points)
+      also eq-eqb (length (j .values)) 513 (l .values)
+      also done)
+
+  pub record-fails : soundPair j ≡ false → false ≡ sound? j
+  unfolding sound?
+  record-fails h = sym (failed (shaped j ∷ soundPair j ∷ soundPoints j ∷ []) 1 h)
+
+  pub record-decided : shaped j ≡ true → soundPair j ≡ true → {r : Bool} → r ≡ soundPoints j → r ≡ sound? j
+  unfolding sound?
+  record-decided s h e = e ∙ sym (decided (s also h also done) (soundPoints j))
+
+  -- what every value of the type holds
+  pub record-lengths : (vs : List Val) → Is (row the-type) j vs → Lengths
+  record-lengths vs h = record {
+    a = long 289 (j .a) (h .1 .1 .1 .1 .1 .1 .1 .1 .0 .1 .0 .1);
+    b = long 289 (j .b) (h .1 .1 .1 .1 .1 .1 .1 .1 .1 .0 .1 .0 .1);
+    points = long 513 (j .points) (h .1 .1 .1 .1 .1 .1 .1 .1 .1 .1 .0 .1 .0 .1);
+    values = long 513 (j .values) (h .1 .1 .1 .1 .1 .1 .1 .1 .1 .1 .1 .0 .1 .0 .1);
+  }

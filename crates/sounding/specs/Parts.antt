@@ -4,6 +4,7 @@
 --   soundTable p m d t             a table of 289 entries with degrees m in x and d in y, as an accepted opening lays it out
 --   soundTables p m da n db s t    two such tables, with as many usable points as they need
 --   Degrees m d t                  t has 289 entries, m is at most 16, and d is the largest power of y that occurs up to row m
+--   emptySlots points values n     the slots from n on are empty
 --   keptAt P points values i       the pair at i would have been kept after those before it, and with this value
 --   keptPairs P points values n    so would each of the first n
 use Prim.Native.Nat.{ℕ, _+_, _*_, _≤_}
@@ -30,6 +31,9 @@ pub record Degrees (m d : ℕ) (t : List ℕ) : Type 0 where
   pub entries : length t ≡ 289
   pub rows : m ≤ 16
   pub largest : d ≡ largest 16 (occurs m (term 16 t))
+
+unfoldable pub emptySlots : List ℕ → List ℕ → ℕ → Bool
+emptySlots points values n = zeros (drop n points) && zeros (drop n values)
 
 unfoldable pub keptAt : Pair → List ℕ → List ℕ → ℕ → Bool
 keptAt P points values i = eqb (pointNumber P (take i points) (getD points i 0)) 0 && eqb (getD values i 0) (kept P (getD points i 0))
