@@ -1,4 +1,5 @@
 // The test that every offer, lot and read makes once per call: whether a record is sound.
+// Slices that are fields of one record share a lifetime, so that they can be lent to one call.
 use job::Job;
 ghost use mathlib.Core.Path.{_≡_};
 ghost use mathlib.Core.Bool.{true};
@@ -58,15 +59,7 @@ fn points_needed(m: usize, da: usize, n: usize, db: usize) -> usize
 }
 
 // Whether as many usable points exist as are needed
-fn enough_points<'a>(
-    p: u32,
-    ta: &'a [u32],
-    m: usize,
-    da: usize,
-    tb: &'a [u32],
-    n: usize,
-    db: usize,
-) -> bool
+fn enough_points(p: u32, ta: &[u32], m: usize, da: usize, tb: &[u32], n: usize, db: usize) -> bool
     requires { ⌜ 0 < p ⌝ }
     requires { ⌜ Degrees m da (now ta) ⌝ }
     requires { ⌜ Degrees n db (now tb) ⌝ }
@@ -92,7 +85,7 @@ fn sound_numbers(p: u32, m: u32, n: u32) -> bool
     !checks::too_high(n)
 }
 
-// Whether both tables are, and as many usable points exist as they need
+// Whether both tables are such tables, and as many usable points exist as they need
 fn sound_tables<'a>(p: u32, ta: &'a [u32], m: u32, da: u32, tb: &'a [u32], n: u32, db: u32) -> bool
     requires { ⌜ 0 < p ⌝ }
     requires { ⌜ length (now ta) ≡ 289 ⌝ }
@@ -121,16 +114,16 @@ pub fn sound_pair(j: Job) -> bool
 }
 
 // Whether the pair at i would have been kept after those before it: a point below p, new and usable, with its value
-fn kept_pair<'a>(
+fn kept_pair(
     p: u32,
-    ta: &'a [u32],
+    ta: &[u32],
     m: usize,
     da: usize,
-    tb: &'a [u32],
+    tb: &[u32],
     n: usize,
     db: usize,
-    points: &'a [u32],
-    values: &'a [u32],
+    points: &[u32],
+    values: &[u32],
     i: usize,
 ) -> bool
     requires { ⌜ 2 ≤ p ⌝ }
@@ -154,7 +147,7 @@ fn kept_pair<'a>(
     values[i] == offers::kept_at(p, ta, m, da, tb, n, db, a)
 }
 
-// Whether each of the first count pairs would
+// Whether each of the first count pairs would have been kept
 fn kept_pairs<'a>(
     p: u32,
     ta: &'a [u32],
