@@ -1,0 +1,2 @@
+-- Facts that the proofs of the functions cite, a file for each subject.
+pub mod Reading
