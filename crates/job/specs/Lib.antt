@@ -16,3 +16,4 @@ pub mod SoundLaws
 pub mod Complete
 pub mod DemandLaws
 pub mod OneShot
+pub mod Computing

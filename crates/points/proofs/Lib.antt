@@ -5,3 +5,4 @@ pub mod Searches
 pub mod Linear
 pub mod Newton
 pub mod Rows
+pub mod Counting

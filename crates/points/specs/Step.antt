@@ -1,7 +1,7 @@
 -- One step of Newton's rule on lists of numbers, lowest coefficient first.
 --
 --   valueOf p n l x            the value at x, modulo p, of the polynomial whose coefficients are the first n entries of l
---   weightOf p d v l t x       what l, of d + 1 coefficients, misses of v at x, divided by the value of t there
+--   weightOf p d v l t x       what l misses of v at x, divided by the value of t there; each up to y^d
 --   plusMultiple p c t l k     the coefficient of y^k of l + c t
 --   timesLinear p x t k        the coefficient of y^k of t times y - x
 use Prim.Native.Nat.{ℕ, suc, _+_, _*_, _-_, _%_}

@@ -1,7 +1,6 @@
 -- Tables of 289 entries: 17 places to a power of x, so that the coefficient of x^i y^j stands at 17 i + j.
 --
---   Table m d t     t is such a table, with no power of x above m that is asked for, and no power of y above d in the
---                   rows up to m
+--   Table m d t     t is such a table, m and d are at most 16, and no row up to m has a power of y above d
 use Prim.Native.Nat.{ℕ, _<_, _≤_}
 use mathlib.Core.List.{List}
 use mathlib.Core.Path.{_≡_}

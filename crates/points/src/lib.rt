@@ -4,7 +4,7 @@ ghost use mathlib.Core.Path.{_≡_};
 ghost use mathlib.Core.Bool.{cond, not};
 ghost use mathlib.Core.List.{_++_};
 ghost use Prim.Native.Nat.{ℕ, suc, _+_, _*_, _-_, _%_, _<_, _≤_};
-ghost use lib.Dec.{eqb};
+ghost use lib.Dec.{leb, eqb};
 ghost use lib.ListN.{length, getD, drop};
 ghost use Rattle.residue.specs.Prime.{Prime};
 ghost use Rattle.residue.specs.Residue.{residues, res, val};
@@ -12,9 +12,10 @@ ghost use Rattle.residue.specs.Inverse.{inv};
 ghost use Rattle.polynomial.specs.Value.{value};
 ghost use Rattle.polynomial.specs.Interpolation.{newton};
 ghost use Rattle.scope.specs.Pair.{term, tables, some, occurs, largest};
-ghost use Rattle.scope.specs.Point.{tabulate, rowAt, usable};
+ghost use Rattle.scope.specs.Point.{tabulate, rowAt, usable, usables};
 ghost use Rattle.scope.specs.Recovery.{Different};
 ghost use Rattle.points.specs.Table.{Table};
+ghost use Rattle.points.specs.Usables.{NextUsable};
 ghost use Rattle.points.specs.Step.{valueOf, weightOf, plusMultiple, timesLinear};
 
 // a * b + c modulo p, with one remainder
@@ -74,6 +75,63 @@ pub fn usable_at(
         return false;
     }
     value_at(p, tb, n * 17, db, a) != 0
+}
+
+// Whether at least `wanted` points below p are usable; it stops as soon as so many are found
+pub fn enough_usable(
+    p: u32,
+    ta: &[u32],
+    m: usize,
+    da: usize,
+    tb: &[u32],
+    n: usize,
+    db: usize,
+    wanted: usize,
+) -> bool
+    requires { ⌜ 0 < p ⌝ }
+    requires { ⌜ Table m da (now ta) ⌝ }
+    requires { ⌜ Table n db (now tb) ⌝ }
+    ensures { λ r. ⌜ r ≡ leb wanted (length (usables (tables p m 16 n 16 (now (ta .entry)) (now (tb .entry))) p)) ⌝ }
+{
+    let mut found: usize = 0;
+    let mut a: u32 = 0;
+    while found < wanted {
+        if a >= p {
+            return false;
+        }
+        if usable_at(p, ta, m, da, tb, n, db, a) {
+            found += 1;
+        }
+        a += 1;
+    }
+    true
+}
+
+// The smallest usable point from `from` on; p where there is none
+pub fn next_usable(
+    p: u32,
+    ta: &[u32],
+    m: usize,
+    da: usize,
+    tb: &[u32],
+    n: usize,
+    db: usize,
+    from: u32,
+) -> u32
+    requires { ⌜ 0 < p ⌝ }
+    requires { ⌜ Table m da (now ta) ⌝ }
+    requires { ⌜ Table n db (now tb) ⌝ }
+    requires { ⌜ from ≤ p ⌝ }
+    ensures { λ r. ⌜ NextUsable (tables p m 16 n 16 (now (ta .entry)) (now (tb .entry))) p from r ⌝ }
+{
+    let mut a = from;
+    while a < p {
+        if usable_at(p, ta, m, da, tb, n, db, a) {
+            return a;
+        }
+        a += 1;
+    }
+    a
 }
 
 // Whether y^j stands in some row up to m
@@ -160,7 +218,7 @@ fn times_linear(p: u32, x: u32, count: usize, t: &mut [u32])
     t[0] = field::mul_sub(p, 0, x, t[0]);
 }
 
-// The factor of the product t in Newton's next step: what out misses of v at x, over the value of t there
+// What out misses of v at x, over the value of t there: the multiple of t that Newton's next step adds to out
 fn weight(p: u32, x: u32, v: u32, d: usize, out: &[u32], t: &[u32]) -> u32
     requires { ⌜ Prime p ⌝ }
     requires { ⌜ v < p ⌝ }
@@ -176,8 +234,8 @@ fn weight(p: u32, x: u32, v: u32, d: usize, out: &[u32], t: &[u32]) -> u32
     field::mul(p, missing, over)
 }
 
-// One point more: out, of d coefficients, takes v at x too, where the product t of d factors is 0 at the points before;
-// and t takes in the factor y - x
+// One point more: out, of degree below d, takes v at x too and keeps its values where t, of degree d, is 0; and t takes
+// in the factor y - x
 fn next_point(p: u32, x: u32, v: u32, d: usize, t: &mut [u32], out: &mut [u32])
     requires { ⌜ Prime p ⌝ }
     requires { ⌜ x < p ⌝ }

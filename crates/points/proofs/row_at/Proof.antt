@@ -1,7 +1,6 @@
 -- `points::row_at`: each turn writes the value of one row.
-use Prim.Native.Nat.{ℕ, _+_, _-_, _≤_}
+use Prim.Native.Nat.{_+_, _-_, _≤_}
 use native.Mathlib.Omega.{arith}
-use lib.ListN.{length, getD}
 use Rattle.scope.specs.Pair.{term}
 use Rattle.scope.specs.Point.{valueAt}
 use Rattle.points.proofs.Stores.{Stored, stored-none, stored-up}

@@ -1,6 +1,6 @@
 -- `points::times_linear`: from the top down each turn stores one coefficient of the product; the entries it reads are
 -- still those that came in.
-use Prim.Native.Nat.{ℕ, _+_, _-_, _<_, _≤_}
+use Prim.Native.Nat.{_<_, _≤_}
 use native.Mathlib.Omega.{arith}
 use lib.ListN.{set}
 use mathlib.Core.Path.{refl}

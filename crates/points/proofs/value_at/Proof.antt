@@ -1,7 +1,7 @@
 -- `points::value_at`: each turn is one step of Horner's rule.
-use Prim.Native.Nat.{ℕ, _+_, _-_}
+use Prim.Native.Nat.{_+_}
 use native.Mathlib.Omega.{arith}
-use lib.ListN.{length, getD}
+use lib.ListN.{getD}
 use Rattle.points.proofs.Horner.{Horner, horner-first, horner-next, horner-last}
 use Rattle.points.proofs.value_at.Statement.{statement}
 use Rattle.points.proofs.value_at.Tie as tie

@@ -1,0 +1,3 @@
+-- Facts that the proofs of the functions cite.
+pub mod Tests
+pub mod Chain

@@ -1,0 +1,117 @@
+// Opening: from two tables to a job, or to the number of the first refusal.
+use job::Job;
+ghost use mathlib.Core.Path.{_≡_};
+ghost use Prim.Native.Nat.{_+_, _*_, _≤_};
+ghost use lib.ListN.{length};
+ghost use Rattle.scope.specs.Pair.{size};
+ghost use Rattle.job.specs.Job as layout;
+ghost use Rattle.job.specs.Public.{strictNumber, strictJob};
+ghost use Rattle.points.proofs.Stores.{Stored};
+ghost use Rattle.opening.specs.Row.{moved};
+
+// One row of a table: the e + 1 entries of t from `from` on, into out from `at` on
+fn lay_row(t: &[u32], from: usize, e: usize, at: usize, out: &mut [u32])
+    requires { ⌜ from + (e + 1) ≤ length (now t) ⌝ }
+    requires { ⌜ at + (e + 1) ≤ length (now out) ⌝ }
+    ensures { λ _. ⌜ Stored (moved (now (t .entry)) from at) at (at + (e + 1)) (now (out .entry)) (now (out .exit)) ⌝ }
+{
+    let mut j = 0;
+    while j <= e {
+        out[at + j] = t[from + j];
+        j += 1;
+    }
+}
+
+// A table of degrees m in x and e in y, laid out 17 places to a power of x
+pub fn spread(t: &[u32], m: usize, e: usize) -> [u32; 289]
+    requires { ⌜ m ≤ 16 ⌝ }
+    requires { ⌜ e ≤ 16 ⌝ }
+    requires { ⌜ length (now t) ≡ size m e ⌝ }
+    ensures { λ r. ⌜ r ≡ layout.spread e (now (t .entry)) ⌝ }
+{
+    let mut out = [0u32; 289];
+    let mut i = 0;
+    while i <= m {
+        lay_row(t, i * (e + 1), e, i * 17, &mut out);
+        i += 1;
+    }
+    out
+}
+
+// The all-zero record
+pub fn blank() -> Job
+    ensures { λ r. ⌜ r ≡ layout.blank ⌝ }
+{
+    Job {
+        p: 0,
+        m: 0,
+        n: 0,
+        da: 0,
+        db: 0,
+        count: 0,
+        a: [0u32; 289],
+        b: [0u32; 289],
+        points: [0u32; 513],
+        values: [0u32; 513],
+    }
+}
+
+// What an opening answers: its number, and the job
+#[repr(C)]
+pub struct Opened {
+    pub number: u32,
+    pub job: Job,
+}
+
+// A refusal hands back the blank record
+fn refused(number: u32) -> Opened
+    ensures { λ r. ⌜ (r .number ≡ number) × (r .job ≡ layout.blank) ⌝ }
+{
+    let job = blank();
+    Opened { number, job }
+}
+
+// D + 1
+fn needed(m: usize, n: usize, da: usize, db: usize) -> usize
+    requires { ⌜ m ≤ 16 ⌝ }
+    requires { ⌜ n ≤ 16 ⌝ }
+    requires { ⌜ da ≤ 16 ⌝ }
+    requires { ⌜ db ≤ 16 ⌝ }
+    ensures { λ r. ⌜ r ≡ n * da + m * db + 1 ⌝ }
+{
+    n * da + m * db + 1
+}
+
+// The strict opening
+pub fn strict(p: u32, m: u32, e: u32, n: u32, f: u32, s: &[u32], t: &[u32]) -> Opened
+    ensures { λ r. ⌜ r .number ≡ strictNumber p m e n f (now (s .entry)) (now (t .entry)) ⌝ }
+    ensures { λ r. ⌜ r .job ≡ strictJob p m e n f (now (s .entry)) (now (t .entry)) ⌝ }
+{
+    let shape = checks::shape_number(p, m, e, n, f, s, t);
+    if shape != 0 {
+        return refused(shape);
+    }
+    let a = spread(s, m as usize, e as usize);
+    let b = spread(t, n as usize, f as usize);
+    let da = points::true_degree(&a, m as usize);
+    let db = points::true_degree(&b, n as usize);
+    let wanted = needed(m as usize, n as usize, da, db);
+    if !points::enough_usable(p, &a, m as usize, da, &b, n as usize, db, wanted) {
+        return refused(8);
+    }
+    Opened {
+        number: 0,
+        job: Job {
+            p,
+            m,
+            n,
+            da: da as u32,
+            db: db as u32,
+            count: 0,
+            a,
+            b,
+            points: [0u32; 513],
+            values: [0u32; 513],
+        },
+    }
+}
