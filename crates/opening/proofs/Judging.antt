@@ -1,24 +1,26 @@
 -- What the strict opening finds on the way, and what follows for its number and its job.
 --
---   table-of          a table with its true degree
---   refused-shape     a refusal before the points are counted: the number, and the blank record
---   Found             what is found once nothing before 8 is refused: both tables laid out, and their true degrees
---   table-a, table-b  each laid-out table with its true degree
---   counted           the test for 8
---   refused-scarce    8, and the blank record
---   accepted          0, and the job
+--   table-of            a table of 289 entries with its true degree
+--   Answers             the number and the job are those of the strict opening
+--   refused-shape       a refusal before the points are counted: that number, and the blank record
+--   fresh               a job with no point kept
+--   Found               both tables have passed all but the test for 8, are laid out, and have their true degrees
+--   facts               what the tests before say of the tables as they came
+--   table-a, table-b    each laid-out table with its true degree
+--   refused-scarce      too few usable points: 8, and the blank record
+--   accepted            enough of them: 0, and the job
 use Prim.Native.Nat.{ℕ, _+_, _*_, _≤_}
 use native.Mathlib.Decide.{decLe}
 use native.Mathlib.Omega.{arith}
 use mathlib.Core.Bool.{Bool, true, false, cond, not}
 use mathlib.Core.List.{List}
-use mathlib.Core.Path.{_≡_, refl, sym, ap, ap₂, _∙_}
+use mathlib.Core.Path.{_≡_, sym, ap, ap₂, _∙_}
 use lib.Dec.{leb, eqb}
 use lib.ListN.{length, replicate}
 use borrow.Author.Tests.{eqb-true, not-false, eq-eqb, ne-eqb}
 use Rattle.scope.specs.Pair.{term, tables, largest, occurs, degreeA, degreeB, bound}
 use Rattle.scope.specs.Point.{usables, needed, enough}
-use Rattle.scope.specs.Number.{_gives_otherwise_, _then_, scarce}
+use Rattle.scope.specs.Number.{_gives_otherwise_, scarce}
 use Rattle.scope.specs.Search.{some-false, largest-bound, largest-most}
 use Rattle.checks.specs.Refusal.{gives-true, gives-false, then-refused, then-done}
 use Rattle.checks.specs.Shape.{shapeNumber, open-shape}
@@ -46,7 +48,6 @@ table-of m d t entries low e = record {
   ];
 }
 
--- what an opening answers: its number, and the job
 abbrev pub Answers : (p m e n f : ℕ) (s t : List ℕ) → ℕ → Job → Type 0
 Answers p m e n f s t number job = (number ≡ strictNumber p m e n f s t) × (job ≡ strictJob p m e n f s t)
 
@@ -61,7 +62,6 @@ pub refused-shape : (p m e n f : ℕ) (s t : List ℕ) {number : ℕ} {job : Job
 unfolding strictNumber
 refused-shape p m e n f s t r at some = refused p m e n f s t r (at ∙ sym (open-shape p m e n f s t ∙ then-refused _ _ (omega arith))) some
 
--- a job with no point kept
 abbrev pub fresh : (p m n da db : ℕ) (a b : List ℕ) → Job
 fresh p m n da db a b =
     record {

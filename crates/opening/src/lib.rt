@@ -1,5 +1,6 @@
 // Opening: from two tables to a job, or to the number of the first refusal.
 use job::Job;
+use job::JobAnswer;
 ghost use mathlib.Core.Path.{_≡_};
 ghost use Prim.Native.Nat.{_+_, _*_, _≤_};
 ghost use lib.ListN.{length};
@@ -56,34 +57,28 @@ pub fn blank() -> Job
     }
 }
 
-// What an opening answers: its number, and the job
-#[repr(C)]
-pub struct Opened {
-    pub number: u32,
-    pub job: Job,
-}
-
 // A refusal hands back the blank record
-fn refused(number: u32) -> Opened
+fn refused(number: u32) -> JobAnswer
     ensures { λ r. ⌜ (r .number ≡ number) × (r .job ≡ layout.blank) ⌝ }
 {
     let job = blank();
-    Opened { number, job }
+    JobAnswer { number, job }
 }
 
-// D + 1
-fn needed(m: usize, n: usize, da: usize, db: usize) -> usize
+// How many points a pair of these degrees needs: D + 1
+fn points_needed(m: usize, da: usize, n: usize, db: usize) -> usize
     requires { ⌜ m ≤ 16 ⌝ }
-    requires { ⌜ n ≤ 16 ⌝ }
     requires { ⌜ da ≤ 16 ⌝ }
+    requires { ⌜ n ≤ 16 ⌝ }
     requires { ⌜ db ≤ 16 ⌝ }
     ensures { λ r. ⌜ r ≡ n * da + m * db + 1 ⌝ }
 {
     n * da + m * db + 1
 }
 
-// The strict opening
-pub fn strict(p: u32, m: u32, e: u32, n: u32, f: u32, s: &[u32], t: &[u32]) -> Opened
+// The strict opening: the number of the first refusal and the blank record, or 0 and the job with no point kept.
+// D, and with it 8, goes by the powers of y that really occur.
+pub fn strict(p: u32, m: u32, e: u32, n: u32, f: u32, s: &[u32], t: &[u32]) -> JobAnswer
     ensures { λ r. ⌜ r .number ≡ strictNumber p m e n f (now (s .entry)) (now (t .entry)) ⌝ }
     ensures { λ r. ⌜ r .job ≡ strictJob p m e n f (now (s .entry)) (now (t .entry)) ⌝ }
 {
@@ -95,11 +90,11 @@ pub fn strict(p: u32, m: u32, e: u32, n: u32, f: u32, s: &[u32], t: &[u32]) -> O
     let b = spread(t, n as usize, f as usize);
     let da = points::true_degree(&a, m as usize);
     let db = points::true_degree(&b, n as usize);
-    let wanted = needed(m as usize, n as usize, da, db);
+    let wanted = points_needed(m as usize, da, n as usize, db);
     if !points::enough_usable(p, &a, m as usize, da, &b, n as usize, db, wanted) {
         return refused(8);
     }
-    Opened {
+    JobAnswer {
         number: 0,
         job: Job {
             p,

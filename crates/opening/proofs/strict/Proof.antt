@@ -1,5 +1,4 @@
 -- `opening::strict`: each answer rests on the tests before it, and on both tables laid out with their true degrees.
-use borrow.Author.Needs.{needs}
 use native.Mathlib.Omega.{arith}
 use mathlib.Core.Path.{_≡_, sym, ap, _∙_}
 use lib.ListN.{length}
@@ -19,6 +18,13 @@ shaped : (c : tie.Else1)
     → let x = c .before .before .before .before .args in ShapeFacts (x .p) (x .m) (x .e) (x .n) (x .f) (x .s .now) (x .t .now)
 shaped c = shape-facts _ _ _ _ _ _ _ (none c)
 
+-- the tables laid out
+long-a : (c : tie.After-spread) → length (c .spread .result) ≡ 289
+long-a c = ap length (c .spread .ensures) ∙ spread-length _ _
+
+long-b : (c : tie.After-spread2) → length (c .spread2 .result) ≡ 289
+long-b c = ap length (c .spread2 .ensures) ∙ spread-length _ _
+
 -- both tables are laid out, and have their true degrees
 found : (c : tie.After-true-degree2)
     → let d = c .before .before .before .before in
@@ -36,10 +42,10 @@ found c =
     }
 
 shape-number-requires : tie.Need-shape-number-requires
-shape-number-requires c κs = search needs
+shape-number-requires c κs = tt
 
 refused-requires : tie.Need-refused-requires
-refused-requires c κs = search needs
+refused-requires c κs = tt
 
 returns : tie.Need-returns
 returns c = refused-shape _ _ _ _ _ _ _ _ (c .before .before .shape-number .ensures) (c .before .if1 .taken) (c .refused .ensures)
@@ -51,36 +57,40 @@ spread-requires-2 : tie.Need-spread-requires-2
 spread-requires-2 c κs = (shaped (c .before) .highN, (shaped (c .before) .highF, shaped (c .before) .lengthB))
 
 slice-aggregate-true-degree : tie.Need-slice-aggregate-true-degree
-slice-aggregate-true-degree c = search needs
+slice-aggregate-true-degree c = sym (long-a (c .before .before))
 
 true-degree-requires : tie.Need-true-degree-requires
-true-degree-requires c κs = (ap length (c .before .before .spread .ensures) ∙ spread-length _ _, shaped (c .before .before .before) .highM)
+true-degree-requires c κs = (long-a (c .before .before), shaped (c .before .before .before) .highM)
 
 slice-aggregate-true-degree-2 : tie.Need-slice-aggregate-true-degree-2
-slice-aggregate-true-degree-2 c = search needs
+slice-aggregate-true-degree-2 c = sym (long-b (c .before .before .before))
 
 true-degree-requires-2 : tie.Need-true-degree-requires-2
-true-degree-requires-2 c κs = (ap length (c .before .before .before .spread2 .ensures) ∙ spread-length _ _, shaped (c .before .before .before .before .before) .highN)
+true-degree-requires-2 c κs = (long-b (c .before .before .before), shaped (c .before .before .before .before .before) .highN)
 
-needed-requires : tie.Need-needed-requires
-needed-requires c κs = (table-a (found c) .rows, (table-b (found c) .rows, (table-a (found c) .powers, table-b (found c) .powers)))
+points-needed-requires : tie.Need-points-needed-requires
+points-needed-requires c κs =
+    let f = shaped (c .before .before .before .before .before .before) in
+    let a = table-a (found c) in
+    let b = table-b (found c) in
+    omega arith
 
 slice-aggregate-enough-usable : tie.Need-slice-aggregate-enough-usable
-slice-aggregate-enough-usable c = search needs
+slice-aggregate-enough-usable c = sym (table-a (found (c .before .before)) .entries)
 
 slice-aggregate-enough-usable-2 : tie.Need-slice-aggregate-enough-usable-2
-slice-aggregate-enough-usable-2 c = search needs
+slice-aggregate-enough-usable-2 c = sym (table-b (found (c .before .before .before)) .entries)
 
 enough-usable-requires : tie.Need-enough-usable-requires
 enough-usable-requires c κs = let h = found (c .before .before .before) in (omega (arith, facts h .modulus .least), (table-a h, table-b h))
 
 refused-requires-2 : tie.Need-refused-requires-2
-refused-requires-2 c κs = search needs
+refused-requires-2 c κs = tt
 
 returns-2 : tie.Need-returns-2
 returns-2 c =
     let d = c .before .before in
-    refused-scarce (found (d .before .before .before .before)) _ (d .before .before .before .needed .ensures) (d .enough-usable .ensures) (not-true _ (c .before .if2 .taken)) (c .refused2 .ensures)
+    refused-scarce (found (d .before .before .before .before)) _ (d .before .before .before .points-needed .ensures) (d .enough-usable .ensures) (not-true _ (c .before .if2 .taken)) (c .refused2 .ensures)
 
 cast-t27 : tie.Need-cast-t27
 cast-t27 c = omega (arith, table-a (found (c .before .before .before .before .before)) .powers)
@@ -91,7 +101,7 @@ cast-t28 c = omega (arith, table-b (found (c .before .before .before .before .be
 returns-3 : tie.Need-returns-3
 returns-3 c =
     let d = c .before in
-    accepted (found (d .before .before .before .before)) _ (d .before .before .before .needed .ensures) (d .enough-usable .ensures) (not-false _ (c .if2 .left))
+    accepted (found (d .before .before .before .before)) _ (d .before .before .before .points-needed .ensures) (d .enough-usable .ensures) (not-false _ (c .if2 .left))
 
 pub strict-spec : {M : Type 1} → statement M
 strict-spec =
@@ -106,7 +116,7 @@ strict-spec =
     true-degree-requires
     slice-aggregate-true-degree-2
     true-degree-requires-2
-    needed-requires
+    points-needed-requires
     slice-aggregate-enough-usable
     slice-aggregate-enough-usable-2
     enough-usable-requires
