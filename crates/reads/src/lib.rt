@@ -1,21 +1,16 @@
-// Reads: the determinant out of a sound job that has all its points.
+// Reads: the determinant out of a sound job that has all its points; and the one-shot, which opens a job, fills it and
+// reads it.
 // What a sound record holds is taken for granted here (Standing): a call checks its record once, before it comes here.
 use job::Job;
 use job::ReadAnswer;
 ghost use mathlib.Core.Bool.{cond};
 ghost use mathlib.Core.Path.{_≡_};
-ghost use Rattle.scope.specs.Point.{needed};
+ghost use Rattle.scope.specs.Point.{smallest};
 ghost use Rattle.job.specs.Job.{pairOf};
+ghost use Rattle.job.specs.Calls.{lotted};
 ghost use Rattle.job.specs.Standing.{Standing};
 ghost use Rattle.reads.specs.Read.{ReadSound};
-
-// How many points are needed, and entries are written: D + 1
-fn needed_for(j: Job) -> u32
-    requires { ⌜ Standing j ⌝ }
-    ensures { λ r. ⌜ r ≡ needed (pairOf j) ⌝ }
-{
-    j.n * j.da + j.m * j.db + 1
-}
+ghost use Rattle.reads.specs.Shot.{Shot};
 
 // 1 where t holds, else 0
 fn flag(t: bool) -> u32
@@ -24,12 +19,24 @@ fn flag(t: bool) -> u32
     if t { 1 } else { 0 }
 }
 
+// A refusal that carries nothing but its number
+fn refused(number: u32) -> ReadAnswer
+    ensures { λ r. ⌜ r ≡ record { number = number; wanted = 0; degree = 0; zero = 0 } ⌝ }
+{
+    ReadAnswer {
+        number,
+        wanted: 0,
+        degree: 0,
+        zero: 0,
+    }
+}
+
 // A read: 14 while points are wanted, 9 where the output is short, else the determinant's coefficients, lowest first
 pub fn read_sound(j: Job, out: &mut [u32]) -> ReadAnswer
     requires { ⌜ Standing j ⌝ }
     ensures { λ r. ⌜ ReadSound j (now (out .entry)) r (now (out .exit)) ⌝ }
 {
-    let needed = needed_for(j);
+    let needed = offers::needed_for(j);
     if j.count < needed {
         return ReadAnswer {
             number: 14,
@@ -40,12 +47,7 @@ pub fn read_sound(j: Job, out: &mut [u32]) -> ReadAnswer
     }
     let room = needed as usize;
     if out.len() < room {
-        return ReadAnswer {
-            number: 9,
-            wanted: 0,
-            degree: 0,
-            zero: 0,
-        };
+        return refused(9);
     }
     let xs = j.points;
     let vs = j.values;
@@ -58,4 +60,46 @@ pub fn read_sound(j: Job, out: &mut [u32]) -> ReadAnswer
         degree,
         zero,
     }
+}
+
+// A fresh job offered the points 0, 1, 2, .. until it has all it needs: it keeps the smallest that suffice
+fn filled(fresh: Job) -> Job
+    requires { ⌜ Standing fresh ⌝ }
+    requires { ⌜ fresh .count ≡ 0 ⌝ }
+    ensures { λ r. ⌜ r ≡ lotted fresh (smallest (pairOf fresh)) ⌝ }
+{
+    let needed = offers::needed_for(fresh);
+    let mut j = fresh;
+    let mut a = 0;
+    while j.count < needed {
+        let answer = offers::offer_sound(j, a);
+        j = answer.job;
+        a += 1;
+    }
+    j
+}
+
+// The one-shot: the opening, the smallest points that suffice, and the read
+pub fn one_shot(
+    p: u32,
+    m: u32,
+    e: u32,
+    n: u32,
+    f: u32,
+    s: &[u32],
+    t: &[u32],
+    out: &mut [u32],
+) -> ReadAnswer
+    ensures { λ r. ⌜ Shot p m e n f (now (s .entry)) (now (t .entry)) (now (out .entry)) r (now (out .exit)) ⌝ }
+{
+    let opened = opening::strict(p, m, e, n, f, s, t);
+    if opened.number != 0 {
+        return refused(opened.number);
+    }
+    let fresh = opened.job;
+    let needed = offers::needed_for(fresh);
+    if out.len() < needed as usize {
+        return refused(9);
+    }
+    read_sound(filled(fresh), out)
 }

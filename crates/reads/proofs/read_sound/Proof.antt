@@ -22,8 +22,12 @@ returns c = read-early _ _ _ (c .before .before .before .needed-for .ensures) (c
 cast-room : tie.Need-cast-room
 cast-room c = search needs
 
+refused-requires : tie.Need-refused-requires
+refused-requires c κs = tt
+
 returns-2 : tie.Need-returns-2
-returns-2 c = read-short _ _ _ (c .before .before .before .needed-for .ensures) (c .before .if1 .left) (c .if2 .taken)
+returns-2 c =
+    rw (c .refused .ensures) (read-short _ _ _ (c .before .before .before .before .needed-for .ensures) (c .before .before .if1 .left) (c .before .if2 .taken))
 
 slice-aggregate-interpolate : tie.Need-slice-aggregate-interpolate
 slice-aggregate-interpolate c = search needs
@@ -89,6 +93,7 @@ read-sound-spec =
     sub-t10
     returns
     cast-room
+    refused-requires
     returns-2
     slice-aggregate-interpolate
     slice-aggregate-interpolate-2
