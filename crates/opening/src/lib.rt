@@ -88,20 +88,31 @@ pub fn strict(p: u32, m: u32, e: u32, n: u32, f: u32, s: &[u32], t: &[u32]) -> J
     }
     let a = spread(s, m as usize, e as usize);
     let b = spread(t, n as usize, f as usize);
-    let da = points::true_degree(&a, m as usize);
-    let db = points::true_degree(&b, n as usize);
-    let wanted = points_needed(m as usize, da, n as usize, db);
-    if !points::enough_usable(p, &a, m as usize, da, &b, n as usize, db, wanted) {
+    let degree_a = points::true_degree(&a, m as usize);
+    let degree_b = points::true_degree(&b, n as usize);
+    let wanted = points_needed(m as usize, degree_a, n as usize, degree_b);
+    if !points::enough_usable(
+        p,
+        &a,
+        m as usize,
+        degree_a,
+        &b,
+        n as usize,
+        degree_b,
+        wanted,
+    ) {
         return refused(8);
     }
+    let da = degree_a as u32;
+    let db = degree_b as u32;
     JobAnswer {
         number: 0,
         job: Job {
             p,
             m,
             n,
-            da: da as u32,
-            db: db as u32,
+            da,
+            db,
             count: 0,
             a,
             b,

@@ -92,11 +92,11 @@ returns-2 c =
     let d = c .before .before in
     refused-scarce (found (d .before .before .before .before)) _ (d .before .before .before .points-needed .ensures) (d .enough-usable .ensures) (not-true _ (c .before .if2 .taken)) (c .refused2 .ensures)
 
-cast-t27 : tie.Need-cast-t27
-cast-t27 c = omega (arith, table-a (found (c .before .before .before .before .before)) .powers)
+cast-da : tie.Need-cast-da
+cast-da c = omega (arith, table-a (found (c .before .before .before .before .before)) .powers)
 
-cast-t28 : tie.Need-cast-t28
-cast-t28 c = omega (arith, table-b (found (c .before .before .before .before .before)) .powers)
+cast-db : tie.Need-cast-db
+cast-db c = omega (arith, table-b (found (c .before .before .before .before .before)) .powers)
 
 returns-3 : tie.Need-returns-3
 returns-3 c =
@@ -122,6 +122,6 @@ strict-spec =
     enough-usable-requires
     refused-requires-2
     returns-2
-    cast-t27
-    cast-t28
+    cast-da
+    cast-db
     returns-3)
