@@ -1,8 +1,9 @@
 -- What a read of a sound job answers, by the tests that the code makes.
 --
 --   some-ext, largest-ext   tests that agree find the same
---   kept-different          the kept points are different numbers below the modulus
---   kept-low                and the kept values are below it
+--   kept-different          kept points are different numbers below the modulus
+--   kept-low                and their values are below it
+--   read-refused            a refusal leaves the output as it was
 --   read-early              14: points are still wanted
 --   read-short              9: the output is short
 --   written-interpolant     the interpolated polynomial's coefficients are the determinant's
@@ -14,10 +15,8 @@ use mathlib.Core.List.{List, _++_}
 use mathlib.Core.Path.{_≡_, refl, sym, ap, ap₂, _∙_}
 use lib.Dec.{eqb}
 use lib.ListN.{length, getD, drop}
-use borrow.Author.Tests.{lt-ltb, le-ltb}
-use Rattle.residue.specs.Residue.{residues, res, val}
-use Rattle.residue.specs.Inverse.{inv}
-use Rattle.polynomial.specs.Interpolation.{newton}
+use borrow.Author.Tests.{lt-ltb, le-ltb, ne-eqb}
+use Rattle.residue.specs.Residue.{val}
 use Rattle.scope.specs.Pair.{bound, some, largest, coefficient}
 use Rattle.scope.specs.Point.{tabulate, needed, room}
 use Rattle.scope.specs.Number.{readNumber, _gives_otherwise_}
@@ -25,12 +24,12 @@ use Rattle.scope.specs.Answers.{onlyDone}
 use Rattle.scope.specs.Recovery.{Different}
 use Rattle.points.proofs.Stores.{tabulate-ext, front-new}
 use Rattle.job.specs.declared.Job.{Job}
-use Rattle.job.specs.declared.ReadAnswer.{ReadAnswer}
 use Rattle.job.specs.Job.{pairOf}
 use Rattle.job.specs.Calls.{interpolant, reading, wanted, written, nonzero, degreeOf, isZero}
 use Rattle.job.specs.Public.{outAfter, zeroFlag}
 use Rattle.job.specs.Standing.{Standing}
-use Rattle.job.specs.Complete.{kept-below, interpolant-determinant}
+use Rattle.job.specs.Complete.{interpolant-determinant}
+use Rattle.offers.proofs.Surplus.{value-below, through}
 use Rattle.reads.specs.Read.{ReadSound}
 
 some-ext : (n : ℕ) (o q : ℕ → Bool) → ((k : ℕ) → k < n → o k ≡ q k) → some n o ≡ some n q
@@ -44,7 +43,7 @@ largest-ext zero o q h = refl
 largest-ext (suc e) o q h =
     ap₂ (λ (t : Bool) (below : ℕ). cond t (suc e) below) (h (suc e) (omega arith)) (largest-ext e o q (λ k l. h k (omega arith)))
 
--- the first k kept points are different, and their values below the modulus
+-- the first k kept pairs
 module _ (j : Job) (s : Standing j) (k : ℕ) (full : k ≤ j .count) where
   pub kept-different : Different (j .p) k (λ i. getD (j .points) i 0)
   kept-different = record {
@@ -53,39 +52,35 @@ module _ (j : Job) (s : Standing j) (k : ℕ) (full : k ≤ j .count) where
   }
 
   pub kept-low : (i : ℕ) → i < k → getD (j .values) i 0 < j .p
-  kept-low i l = rw (s .value-kept i (omega arith)) (unfold pairOf in kept-below (pairOf j) (getD (j .points) i 0) (omega (arith, s .modulus .least)))
+  kept-low i l = value-below j s i (omega arith)
+
+read-refused : (j : Job) (out : List ℕ) (r w : ℕ) → reading j (length out) ≡ r → (r ≡ 0 → ⊥) → w ≡ cond (eqb r 14) (wanted j) 0
+    → ReadSound j out (record { number = r; wanted = w; degree = 0; zero = 0 }) out
+unfolding outAfter onlyDone
+read-refused j out r w answer h still =
+    record {
+      number = sym answer;
+      wanted = rw answer still;
+      degree = rw (answer, ne-eqb r 0 h) refl;
+      zero = rw (answer, ne-eqb r 0 h) refl;
+      output = rw (answer, ne-eqb r 0 h) refl;
+    }
 
 -- the code's number of points needed is k
 module _ (j : Job) (out : List ℕ) (k : ℕ) (at : k ≡ needed (pairOf j)) where
   pub read-early : j .count < k → ReadSound j out (record { number = 14; wanted = k - j .count; degree = 0; zero = 0 }) out
-  unfolding wanted outAfter onlyDone
+  unfolding wanted
   read-early l =
-      record {
-        number = sym answer;
-        wanted = rw (answer, at) refl;
-        degree = rw answer refl;
-        zero = rw answer refl;
-        output = rw answer refl;
-      }
-    where
-      answer : reading j (length out) ≡ 14
-      answer = unfold reading readNumber _gives_otherwise_ in rw (lt-ltb (j .count) (needed (pairOf j)) (omega (arith, at))) refl
+      read-refused j out 14 (k - j .count)
+      (unfold reading readNumber _gives_otherwise_ in rw (lt-ltb (j .count) (needed (pairOf j)) (omega (arith, at))) refl)
+      (omega arith) (rw at refl)
 
   pub read-short : k ≤ j .count → length out < k → ReadSound j out (record { number = 9; wanted = 0; degree = 0; zero = 0 }) out
-  unfolding outAfter onlyDone
   read-short full l =
-      record {
-        number = sym answer;
-        wanted = rw answer refl;
-        degree = rw answer refl;
-        zero = rw answer refl;
-        output = rw answer refl;
-      }
-    where
-      answer : reading j (length out) ≡ 9
-      answer =
-          unfold reading readNumber _gives_otherwise_ needed room in
-          rw (le-ltb (j .count) (needed (pairOf j)) (omega (arith, at)), lt-ltb (length out) (room (pairOf j)) (omega (arith, at))) refl
+      read-refused j out 9 0
+      (unfold reading readNumber _gives_otherwise_ needed room in
+      rw (le-ltb (j .count) (needed (pairOf j)) (omega (arith, at)), lt-ltb (length out) (room (pairOf j)) (omega (arith, at))) refl)
+      (omega arith) refl
 
 module _ (j : Job) (s : Standing j) (full : j .count ≡ needed (pairOf j)) where
   pub written-interpolant : tabulate (needed (pairOf j)) (λ i. val (j .p) (interpolant j i)) ≡ written (pairOf j)
@@ -96,7 +91,7 @@ module _ (j : Job) (s : Standing j) (full : j .count ≡ needed (pairOf j)) wher
 
 -- a read of a job with all its points: the output afterwards holds the polynomial through them
 module _ (j : Job) (s : Standing j) (out after : List ℕ) (k : ℕ) (at : k ≡ needed (pairOf j)) (full : k ≤ j .count) (fits : k ≤ length out)
-    (e : after ≡ tabulate k (λ i. val (j .p) (newton (residues (j .p)) (inv (j .p)) (λ i. res (j .p) (getD (j .points) i 0)) (λ i. res (j .p) (getD (j .values) i 0)) k i)) ++ drop k out) where
+    (e : after ≡ tabulate k (λ i. val (j .p) (through j k i)) ++ drop k out) where
   answer : reading j (length out) ≡ 0
   unfolding reading readNumber _gives_otherwise_ needed room
   answer = rw (le-ltb (j .count) (needed (pairOf j)) (omega (arith, at)), le-ltb (length out) (room (pairOf j)) (omega (arith, at))) refl

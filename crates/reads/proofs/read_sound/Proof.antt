@@ -35,24 +35,24 @@ slice-aggregate-interpolate c = search needs
 slice-aggregate-interpolate-2 : tie.Need-slice-aggregate-interpolate-2
 slice-aggregate-interpolate-2 c = search needs
 
+-- the points needed fit the record
+needed-low : (c : tie.Else2) → c .before .before .before .needed-for .result ≤ 513
+needed-low c = let start = c .before .before .before .before .before in omega (arith, c .before .before .before .needed-for .ensures, needed-fits (start .args .j) (start .pre))
+
 interpolate-requires : tie.Need-interpolate-requires
 interpolate-requires c κs =
     let roomy = c .before .before .before .before .before in
-    let counted = roomy .before .before .before .needed-for in
     let j = roomy .before .before .before .before .before .args .j in
     let s = roomy .before .before .before .before .before .pre in
-    let fits : counted .result ≤ 513 = omega (arith, counted .ensures, needed-fits j s) in (
+    let full = roomy .before .if1 .left in (
       s .modulus .least,
       (
         s .modulus .prime,
         (
-          fits,
+          needed-low roomy,
           (
-            omega (arith, fits, s .length-points),
-            (
-              omega (arith, fits, s .length-values),
-              (roomy .if2 .left, (kept-different j s _ (roomy .before .if1 .left), kept-low j s _ (roomy .before .if1 .left))),
-            ),
+            omega (arith, needed-low roomy, s .length-points),
+            (omega (arith, needed-low roomy, s .length-values), (roomy .if2 .left, (kept-different j s _ full, kept-low j s _ full))),
           ),
         ),
       ),
@@ -63,10 +63,9 @@ degree-of-requires c κs = omega (arith, c .before .before .before .before .befo
 
 cast-degree : tie.Need-cast-degree
 cast-degree c =
-    let counted = c .before .before .before .before .before .before .before .before .before .before .before .before .before .needed-for in
-    let start = c .before .before .before .before .before .before .before .before .before .before .before .before .before .before .before in
-    let low : c .degree-of .result ≤ counted .result - 1 = rw (c .degree-of .ensures) (largest-bound _ _) in
-    omega (arith, low, counted .ensures, needed-fits (start .args .j) (start .pre))
+    let roomy = c .before .before .before .before .before .before .before .before .before .before in
+    let low : c .degree-of .result ≤ roomy .before .before .before .needed-for .result - 1 = rw (c .degree-of .ensures) (largest-bound _ _) in
+    omega (arith, low, needed-low roomy)
 
 all-zero-requires : tie.Need-all-zero-requires
 all-zero-requires c κs = omega (arith, c .before .before .before .before .before .before .before .before .before .before .before .if2 .left, c .before .before .before .before .before .interpolate .kept .1 .1 .1 .1 .0)
