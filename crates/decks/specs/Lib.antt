@@ -2,3 +2,7 @@
 pub mod Text
 pub mod Deck
 pub mod Figure
+pub mod Buffer
+pub mod BufferLaws
+pub mod TextLaws
+pub mod LineLaws
