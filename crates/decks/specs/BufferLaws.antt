@@ -74,10 +74,10 @@ module _ {out : List ℕ} {at : ℕ} {s mid : List ℕ} {k : ℕ} where
   pub put-length : Put out at s mid k → at + length s ≤ length out → length mid ≡ length out
   put-length first h = ap length (first .text) ∙ laid-length out at s h
 
-  pub put-on : {t after : List ℕ} {r : ℕ} → Put out at s mid k → Put mid k t after r → at + length s ≤ length out → Put out at (s ++ t) after r
+  pub put-on : {t after : List ℕ} {r : ℕ} → Put out at s mid k → Put mid k t after r → k ≤ length out → Put out at (s ++ t) after r
   put-on {t} first then h =
       record {
-        text = then .text ∙ ap (λ (l : List ℕ). laid l k t) (first .text) ∙ ap (λ (n : ℕ). laid (laid out at s) n t) (first .next) ∙ laid-on out at s t h;
+        text = then .text ∙ ap (λ (l : List ℕ). laid l k t) (first .text) ∙ ap (λ (n : ℕ). laid (laid out at s) n t) (first .next) ∙ laid-on out at s t (omega (arith, first .next));
         next = then .next ∙ ap (λ (n : ℕ). n + length t) (first .next) ∙ add-assoc at (length s) (length t) ∙ ap (λ (n : ℕ). at + n) (sym (length-append s t));
       }
 

@@ -2,6 +2,7 @@
 pub mod Text
 pub mod Deck
 pub mod Figure
+pub mod Line
 pub mod Buffer
 pub mod BufferLaws
 pub mod TextLaws

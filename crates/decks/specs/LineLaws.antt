@@ -1,8 +1,9 @@
 -- Laws of numbers put one after the other.
 --
---   put-entry     one entry more of a row
+--   put-entry        one entry more of a row
+--   line-start, line-number, line-end     a line put piece by piece: its word, its numbers, its end
 use Prim.Native.Nat.{ℕ, zero, suc, _+_, _*_, _^_, _≤_, _<_}
-use mathlib.Core.List.{List, [], _∷_, _++_, append-assoc}
+use mathlib.Core.List.{List, [], _∷_, _++_, append-assoc, append-nil}
 use mathlib.Core.Path.{_≡_, refl, sym, ap, _∙_}
 use native.Mathlib.Numerals.{add-one}
 use native.Mathlib.Omega.{arith}
@@ -19,4 +20,22 @@ put-entry row i part one h room =
     (ap (λ (l : List ℕ). spaced (take i row) ++ l) (sym (spaced-one (getD row i 0)))
     ∙ sym (spaced-on (take i row) (getD row i 0 ∷ []))
     ∙ ap spaced (sym (take-suc row i 0 h) ∙ ap (λ (n : ℕ). take n row) (sym (add-one i))))
-    (put-on part one (omega (arith, part .next)))
+    (put-on part one room)
+
+-- a line put piece by piece
+pub line-start : (word : List ℕ) {out mid : List ℕ} {at k : ℕ} → Put out at word mid k → Put out at (word ++ spaced []) mid k
+unfolding spaced
+line-start word first = put-as (sym (append-nil word)) first
+
+module _ (word ns : List ℕ) {out mid after : List ℕ} {at k r : ℕ} where
+  pub line-number : (n : ℕ) → Put out at (word ++ spaced ns) mid k → Put mid k (32 ∷ decimal n) after r → k ≤ length out → Put out at (word ++ spaced (ns ++ n ∷ [])) after r
+  line-number n part one room =
+      put-as
+      (append-assoc word (spaced ns) (32 ∷ decimal n)
+      ∙ ap (λ (l : List ℕ). word ++ (spaced ns ++ l)) (sym (spaced-one n))
+      ∙ ap (λ (l : List ℕ). word ++ l) (sym (spaced-on ns (n ∷ []))))
+      (put-on part one room)
+
+  pub line-end : Put out at (word ++ spaced ns) mid k → Put mid k (10 ∷ []) after r → k ≤ length out → Put out at (line word ns) after r
+  unfolding line
+  line-end part one room = put-as (append-assoc word (spaced ns) (10 ∷ [])) (put-on part one room)

@@ -4,6 +4,7 @@
 --   decimal-step      any other is the digits of its tenth part, and one more
 --   decimal-digit-length, decimal-step-length     how many that makes
 --   decimal-width     a number below 10^k has at most k digits, for k above 0
+--   digits20, digits10      so 20 for 64 bits, and 10 for 32
 --   spaced-on         numbers after numbers
 --   spaced-one        one number after a space
 use Prim.Native.Nat.{ℕ, zero, suc, _+_, _*_, _^_, _/_, _%_, _≤_, _<_, zero-le}
@@ -90,6 +91,12 @@ digits-width (suc fuel) (suc k) n found h =
 pub decimal-width : (k n : ℕ) → n < 10 ^ suc k → length (decimal n) ≤ suc k
 unfolding decimal
 decimal-width k n h = omega (arith, digits-width 20 k n [] h)
+
+pub digits20 : (n : ℕ) → n < 2 ^ 64 → length (decimal n) ≤ 20
+digits20 n h = decimal-width 19 n (omega arith)
+
+pub digits10 : (n : ℕ) → n < 2 ^ 32 → length (decimal n) ≤ 10
+digits10 n h = decimal-width 9 n (omega arith)
 
 pub spaced-on : (ms ns : List ℕ) → spaced (ms ++ ns) ≡ spaced ms ++ spaced ns
 unfolding spaced

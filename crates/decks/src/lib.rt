@@ -1,6 +1,7 @@
 // The deck reader: the state it goes through, one record at a time.
 use job::Job;
 
+pub mod lines;
 pub mod text;
 
 // stage: 0 before the modulus, 1 before the degrees, 2 before the opening, 3 with an open job.

@@ -4,7 +4,7 @@ use mathlib.Core.Path.{_≡_, refl, ap, _∙_}
 use native.Mathlib.Omega.{arith}
 use lib.ListN.{length, take, getD}
 use Rattle.decks.specs.Text.{spaced}
-use Rattle.decks.specs.TextLaws.{decimal-width}
+use Rattle.decks.specs.TextLaws.{digits10}
 use Rattle.decks.specs.Buffer.{Put}
 use Rattle.decks.specs.BufferLaws.{put-none, put-as}
 use Rattle.decks.specs.LineLaws.{put-entry}
@@ -35,7 +35,7 @@ put-spaced-number-requires : tie.Need-put-spaced-number-requires Inv-loop μ-loo
 put-spaced-number-requires c κs =
     let at-loop = c .before .before .before in
     let entry = getD (at-loop .before .before .before .args .row .now) (at-loop .loop .i) 0 in
-    omega (arith, decimal-width 9 entry (omega (arith, c .before .shared-slice-known2 .given (at-loop .loop .i))))
+    omega (arith, digits10 entry (omega (arith, c .before .shared-slice-known2 .given (at-loop .loop .i))))
 
 add-i : tie.Need-add-i Inv-loop μ-loop
 add-i c = omega arith
@@ -50,7 +50,7 @@ loop-again c =
     let entry = getD row (at-loop .loop .i) 0 in
     let put = c .before .before .put-spaced-number in (
       put-entry row (at-loop .loop .i) (at-loop .loop .inv .0) (put .ensures) (omega arith) (omega arith),
-      omega (arith, put .ensures .next, decimal-width 9 entry (omega (arith, c .before .before .before .before .shared-slice-known2 .given (at-loop .loop .i)))),
+      omega (arith, put .ensures .next, digits10 entry (omega (arith, c .before .before .before .before .shared-slice-known2 .given (at-loop .loop .i)))),
       omega arith,
       put .kept .1 .0 ∙ at-loop .loop .inv .3,
     )
