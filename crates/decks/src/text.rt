@@ -54,6 +54,7 @@ pub fn put_entries(row: &[u32], count: usize, out: &mut [u8], at: usize) -> usiz
     requires { ⌜ count ≤ length (now row) ⌝ }
     requires { ⌜ at + 11 * count ≤ length (now out) ⌝ }
     ensures { λ r. ⌜ Put (now (out .entry)) at (spaced (take count (now (row .entry)))) (now (out .exit)) r ⌝ }
+    ensures { λ r. ⌜ r ≤ at + 11 * count ⌝ }
 {
     let mut i = 0;
     let mut next = at;

@@ -61,8 +61,10 @@ same-length c = c .before .loop .inv .3
 returns : tie.Need-returns Inv-loop μ-loop
 returns c =
     let start = c .before .before .before .before in
-    let all : c .before .loop .i ≡ start .args .count = omega arith in
-    put-as (ap (λ (n : ℕ). spaced (take n (start .args .row .now))) all) (c .before .loop .inv .0)
+    let all : c .before .loop .i ≡ start .args .count = omega arith in (
+      put-as (ap (λ (n : ℕ). spaced (take n (start .args .row .now))) all) (c .before .loop .inv .0),
+      omega arith,
+    )
 
 pub put-entries-spec : {M : Type 1} → statement M
 put-entries-spec =
