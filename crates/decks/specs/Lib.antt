@@ -7,3 +7,4 @@ pub mod Buffer
 pub mod BufferLaws
 pub mod TextLaws
 pub mod LineLaws
+pub mod Refusal

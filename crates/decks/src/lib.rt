@@ -2,6 +2,7 @@
 use job::Job;
 
 pub mod lines;
+pub mod records;
 pub mod text;
 
 // stage: 0 before the modulus, 1 before the degrees, 2 before the opening, 3 with an open job.
