@@ -8,3 +8,4 @@ pub mod BufferLaws
 pub mod TextLaws
 pub mod LineLaws
 pub mod Refusal
+pub mod DeckLaws
