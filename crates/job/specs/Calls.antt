@@ -6,16 +6,17 @@
 --   offered j a            the job afterwards
 --   lotAnswers j xs        the answers to the points of a lot, left to right
 --   lotted j xs            the job after them
---   readNumber j entries   the number of a read into so many entries: 14, 9, 0
+--   reading j entries      the number of a read into so many entries: 14, 9, 0
 --   wanted j               how many points are still wanted
 --   written P              the entries that a read writes: the determinant's coefficients, lowest first
+--   nonzero P k            coefficient k of the determinant is not 0
 --   degreeOf P             the determinant's degree; 0 for the zero polynomial
 --   isZero P               the determinant is the zero polynomial
-use Prim.Native.Nat.{ℕ, suc, _+_, _-_}
+use Prim.Native.Nat.{ℕ, _+_, _-_}
 use mathlib.Core.Bool.{Bool, cond, not}
 use mathlib.Core.List.{List, [], _∷_}
 use lib.Dec.{ltb, eqb}
-use lib.ListN.{length, getD}
+use lib.ListN.{getD}
 use Rattle.ring.specs.Ring.{Ring}
 use Rattle.residue.specs.Residue.{residues, res, val}
 use Rattle.residue.specs.Inverse.{inv}

@@ -9,3 +9,11 @@ pub mod SamePair
 pub mod TestLaws
 pub mod TableLaws
 pub mod OpenLaws
+pub mod StandingLaws
+pub mod SoundTests
+pub mod Replay
+pub mod SoundLaws
+pub mod Complete
+pub mod DemandLaws
+pub mod OneShot
+pub mod Computing

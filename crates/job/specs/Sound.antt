@@ -4,15 +4,15 @@
 --   zeros r          every entry is 0
 --   good P xs        the points xs are below p, usable and different
 --   sound? j         the test that offers, lots and reads make once per call
-use Prim.Native.Nat.{ℕ, zero, suc, _+_, _*_}
+use Prim.Native.Nat.{ℕ, _+_, _*_}
 use mathlib.Core.Bool.{Bool, true, false, not, _&&_}
 use mathlib.Core.List.{List, [], _∷_, map}
 use mathlib.Core.Path.{_≡_}
 use lib.Dec.{leb, eqb}
 use lib.ListN.{length, drop, take}
 use Rattle.scope.specs.Pair.{Pair, degreeA, degreeB}
-use Rattle.scope.specs.Point.{kept, needed, usable, enough}
-use Rattle.scope.specs.Number.{openNumber, outside, composite, tooHigh, over, noLead, among, pointNumber}
+use Rattle.scope.specs.Point.{kept, needed, enough}
+use Rattle.scope.specs.Number.{openNumber, outside, composite, tooHigh, over, noLead, pointNumber}
 use Rattle.job.specs.declared.Job.{Job}
 use Rattle.job.specs.Job.{pairOf, opened, keptPoints}
 use Rattle.job.specs.Calls.{lotted}

@@ -4,27 +4,16 @@
 --   Holds               what a figure says of the definitions
 --   figures             K2 to K11
 --   figures-hold        they all hold
-use Prim.Native.Nat.{ℕ, zero, suc, _+_}
-use mathlib.Core.List.{List, [], _∷_, map, _++_}
+use Prim.Native.Nat.{ℕ, _+_}
+use mathlib.Core.List.{List, [], _∷_}
 use mathlib.Core.Path.{_≡_, refl}
-use lib.ListN.{length}
-use Rattle.ring.specs.Ring.{pow, sign}
-use Rattle.ring.specs.Sum.{sum, alt}
-use Rattle.ring.specs.Det.{det, skip}
-use Rattle.residue.specs.Prime.{prime?, limit}
-use Rattle.residue.specs.Residue.{residues, res, val, cut, modulus}
-use Rattle.residue.specs.Inverse.{inverse}
-use Rattle.polynomial.specs.Convolution.{conv, one}
-use Rattle.polynomial.specs.Poly.{poly, plus, minus, nil}
-use Rattle.polynomial.specs.Value.{value}
-use Rattle.ring.specs.Matrix.{stack}
-use Rattle.sylvester.specs.Sylvester.{top, moved, sylvester, resultant}
-use Rattle.euclid.specs.Row.{coef, joined, trim, declared, degree, lead, rowDeterminant}
-use Rattle.euclid.specs.Division.{less, entry, rest, divide, remainder}
-use Rattle.euclid.specs.Sequence.{monic, following, sequence, turns, steps, final, leads, byLast, formula, bySize, rowResultant, stepsBySize, rowSteps}
-use Rattle.scope.specs.Pair.{Pair, tables, term, place, size, some, largest, occurs, degreeA, degreeB, bound, polynomial, determinant, coefficient}
-use Rattle.scope.specs.Point.{tabulate, valueAt, usable, needed, room, usables, enough}
-use Rattle.scope.specs.Number.{_gives_otherwise_, outside, composite, tooHigh, misfit, over, noLead, scarce, openNumber}
+use Rattle.residue.specs.Residue.{val}
+use Rattle.euclid.specs.Row.{rowDeterminant}
+use Rattle.euclid.specs.Sequence.{rowResultant, rowSteps}
+use Rattle.scope.specs.Pair.{tables, bound, coefficient}
+use Rattle.scope.specs.Point.{tabulate, usables}
+use Rattle.scope.specs.Number.{openNumber}
+use Rattle.scope.specs.Computing.{computing}
 
 pub data Figure : Type 0 where
   -- p, the two rows, the resultant, the steps
@@ -58,7 +47,7 @@ figures =
     ∷ []
 
 pub figures-hold : AllHold figures
-unfolding pow sign sum alt det skip prime? residues res val cut modulus inverse conv one plus minus nil value stack top moved sylvester resultant coef joined trim declared degree lead rowDeterminant less entry rest divide remainder monic following sequence turns steps final leads byLast formula bySize rowResultant stepsBySize rowSteps tables term place size some largest occurs degreeA degreeB bound polynomial determinant coefficient tabulate valueAt usable needed room usables enough _gives_otherwise_ outside composite tooHigh misfit over noLead scarce openNumber
+unfolding computing
 figures-hold = (
   (refl, refl, refl),
   (

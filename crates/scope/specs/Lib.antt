@@ -2,6 +2,7 @@
 pub mod Pair
 pub mod Point
 pub mod Number
+pub mod Computing
 pub mod Figures
 pub mod Answers
 pub mod Search

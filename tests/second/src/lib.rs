@@ -9,3 +9,4 @@ pub mod known;
 pub mod random;
 pub mod report;
 pub mod rows;
+pub mod same_steps;

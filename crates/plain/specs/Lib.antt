@@ -1,0 +1,3 @@
+-- What the determinant by expansion along rows is promised to be.
+pub mod Expansion
+pub mod Rows
