@@ -9,3 +9,5 @@ pub mod TextLaws
 pub mod LineLaws
 pub mod Refusal
 pub mod DeckLaws
+pub mod State
+pub mod AnswerLaws
