@@ -7,19 +7,18 @@
 --   readLine-done        the line of a read that is done
 --   readLine-wanting     and of one that wants more points
 --   written-taken        the entries that a read wrote
-use Prim.Native.Nat.{ℕ, _+_, _*_, _≤_, _<_}
-use mathlib.Core.Bool.{Bool, true, false, cond}
+use Prim.Native.Nat.{ℕ, _+_, _*_, _≤_}
+use mathlib.Core.Bool.{true, false, cond}
 use mathlib.Core.List.{List, [], _∷_, _++_}
-use mathlib.Core.Path.{_≡_, refl, sym, ap, _∙_}
+use mathlib.Core.Path.{_≡_, refl, ap}
 use native.Mathlib.Nat.{le-refl}
-use native.Mathlib.Omega.{arith}
-use lib.Dec.{eqb, ltb}
-use lib.ListN.{length, take, drop}
+use lib.Dec.{eqb}
+use lib.ListN.{take, drop}
 use lib.Seq.{take-at}
 use borrow.Author.Tests.{eq-eqb, ne-eqb, le-ltb}
 use Rattle.scope.specs.Pair.{Pair, bound}
 use Rattle.scope.specs.Point.{room}
-use Rattle.scope.specs.Number.{_gives_otherwise_, readNumber}
+use Rattle.scope.specs.Number.{readNumber}
 use Rattle.scope.specs.Degree.{tabulate-length}
 use Rattle.job.specs.declared.Job.{Job}
 use Rattle.job.specs.Job.{pairOf}

@@ -11,7 +11,8 @@
 --   put-more         one byte more of the word
 --   put-whole        where all of them are put
 --   put-begins       what is put at 0 is what the buffer begins with
-use Prim.Native.Nat.{ℕ, zero, suc, _+_, _-_, _≤_, _<_}
+--   begins-none      where nothing is written
+use Prim.Native.Nat.{ℕ, _+_, _≤_, _<_}
 use mathlib.Core.List.{List, [], _∷_, _++_, append-assoc}
 use mathlib.Core.Path.{_≡_, refl, sym, ap, subst, _∙_}
 use native.Mathlib.Nat.{add-zero, zero-add, add-assoc}
@@ -104,3 +105,6 @@ put-begins {out} {s} p =
       text = p .text ∙ ap (λ (k : ℕ). s ++ drop k out) (zero-add (length s));
       next = p .next ∙ zero-add (length s);
     }
+
+pub begins-none : (out : List ℕ) → Begins out [] out 0
+begins-none out = record { text = refl; next = refl }

@@ -2,20 +2,22 @@
 --
 --   Stepped                          what a step leaves: the state, the text to print, and whether the run stops
 --   stepped d k body offset          the step of a record of kind k, its kind byte at `offset`, of whose body `body` arrived
+--   stepped-refused                  the step of a record with a deck refusal
+--   stepped-taken                    the step of any other
 --   follow s on                      stop where the step says so, else print its text and go on from its state
 --   stepping fuel offset d bytes     the loop: a byte of kind, what arrived of its body, a step; `end` at the end of input
 --   taken-stopped                    a refused opening leaves the state as it is
 --   stepping-from                    the loop is the definition
 --   from-enough                      room for more records than there are bytes changes nothing
 --   deck-stepping                    so a loop with that much room is the whole deck
-use Prim.Native.Nat.{ℕ, zero, suc, _+_, _≤_, _<_}
+use Prim.Native.Nat.{ℕ, zero, suc, _+_, _<_}
 use mathlib.Core.Bool.{Bool, true, false, cond, not, _&&_}
-use mathlib.Core.List.{List, [], _∷_, _++_}
-use mathlib.Core.Path.{_≡_, refl, sym, ap, _∙_}
+use mathlib.Core.List.{List, [], _∷_}
+use mathlib.Core.Path.{_≡_, refl, ap, _∙_}
 use native.Mathlib.Omega.{arith}
 use lib.Dec.{eqb}
 use lib.ListN.{length, take, drop, length-drop}
-use borrow.Author.Tests.{eqb-true, not-true}
+use borrow.Author.Tests.{eqb-true, eq-eqb, ne-eqb, not-true}
 use Rattle.decks.specs.declared.Deck.{Deck}
 use Rattle.decks.specs.Text.{line, deckWord, endWord}
 use Rattle.decks.specs.Deck.{bodyLength, deckNumber, opening, taken, lineOf, stops, Outcome, before, halted, from, fresh, deck}
@@ -30,6 +32,14 @@ stepped d k body offset =
     cond (eqb (deckNumber d k body) 0)
     (record { state = taken d k body; text = lineOf d k body; halt = stops d k })
     (record { state = d; text = line deckWord (deckNumber d k body ∷ offset ∷ []); halt = true })
+
+pub stepped-refused : (d : Deck) (k : ℕ) (body : List ℕ) (offset : ℕ) → (deckNumber d k body ≡ 0 → ⊥) → stepped d k body offset ≡ record { state = d; text = line deckWord (deckNumber d k body ∷ offset ∷ []); halt = true }
+unfolding stepped
+stepped-refused d k body offset h = rw (ne-eqb (deckNumber d k body) 0 h) refl
+
+pub stepped-taken : (d : Deck) (k : ℕ) (body : List ℕ) (offset : ℕ) → deckNumber d k body ≡ 0 → stepped d k body offset ≡ record { state = taken d k body; text = lineOf d k body; halt = stops d k }
+unfolding stepped
+stepped-taken d k body offset h = rw (eq-eqb (deckNumber d k body) 0 h) refl
 
 unfoldable pub follow : Stepped → (Deck → Outcome) → Outcome
 follow s on = elim (s .halt) [ true ↦ halted (s .text) (s .state) | false ↦ before (s .text) (on (s .state)) ]

@@ -1,14 +1,16 @@
 -- Laws of numbers put one after the other.
 --
---   put-entry        one entry more of a row
---   line-start, line-number, line-end     a line put piece by piece: its word, its numbers, its end
+--   put-entry             one entry more of a row
+--   line-start            a line put piece by piece: its word,
+--   line-number           its numbers,
+--   line-end              its end
 --   readHead              the line of a read before the degree
 --   readText-pieces       that line is its pieces, one after the other
 --   degreeText-length     a degree takes 10 bytes at most
-use Prim.Native.Nat.{ℕ, zero, suc, _+_, _*_, _^_, _≤_, _<_}
-use mathlib.Core.Bool.{Bool, true, false, cond}
+use Prim.Native.Nat.{ℕ, _+_, _^_, _≤_, _<_}
+use mathlib.Core.Bool.{true, false, cond}
 use mathlib.Core.List.{List, [], _∷_, _++_, append-assoc, append-nil}
-use mathlib.Core.Path.{_≡_, refl, sym, ap, _∙_}
+use mathlib.Core.Path.{_≡_, sym, ap, _∙_}
 use native.Mathlib.Numerals.{add-one}
 use native.Mathlib.Omega.{arith}
 use lib.Dec.{eqb}

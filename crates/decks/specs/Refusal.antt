@@ -14,11 +14,11 @@
 use Prim.Native.Nat.{ℕ, _+_, _*_, _≤_, _<_}
 use mathlib.Core.Bool.{Bool, true, false, not, _&&_, _||_, cond}
 use mathlib.Core.List.{List}
-use mathlib.Core.Path.{_≡_, refl, sym, ap, _∙_}
+use mathlib.Core.Path.{_≡_, refl}
 use native.Mathlib.Omega.{arith}
 use lib.Dec.{ltb, eqb}
 use lib.ListN.{length}
-use borrow.Author.Tests.{ltb-false, not-false, eq-eqb}
+use borrow.Author.Tests.{ltb-false}
 use Rattle.scope.specs.Number.{_gives_otherwise_, tooHigh}
 use Rattle.scope.specs.Search.{or-false}
 use Rattle.job.specs.TestLaws.{gives-zero, tooHigh-false}

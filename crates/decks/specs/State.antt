@@ -4,24 +4,23 @@
 --   fresh-fit       the state before the first record
 --   opening-stands  the job that an accepted opening gives
 --   taken-fit       the state after a record that is not refused
-use Prim.Native.Nat.{ℕ, zero, suc, _+_, _*_, _≤_, _<_}
-use mathlib.Core.Bool.{Bool, true, false, cond, not, _&&_}
+use Prim.Native.Nat.{ℕ, _≤_}
+use mathlib.Core.Bool.{Bool, true, false, cond}
 use mathlib.Core.List.{List}
-use mathlib.Core.Path.{_≡_, refl, sym, ap, subst, _∙_}
+use mathlib.Core.Path.{_≡_, refl, _∙_}
 use native.Mathlib.Omega.{arith}
 use lib.Dec.{eqb}
-use lib.ListN.{length, set, length-set, length-replicate}
+use lib.ListN.{length, length-set, length-replicate}
 use borrow.Author.Tests.{eqb-true, eq-eqb}
 use Rattle.scope.specs.Number.{openNumber}
 use Rattle.job.specs.declared.Job.{Job}
-use Rattle.job.specs.Job.{opened}
 use Rattle.job.specs.Standing.{Standing}
 use Rattle.job.specs.OpenLaws.{opened-standing}
 use Rattle.job.specs.StandingLaws.{offered-standing}
 use Rattle.job.specs.Public.{strictNumber, strictJob}
 use Rattle.decks.specs.declared.Deck.{Deck}
 use Rattle.decks.specs.Deck.{byte, number4, fresh, deckNumber, tableA, tableB, opening, withModulus, withDegrees, withPlace, withJob, taken}
-use Rattle.decks.specs.Refusal.{steep, Passed, passed, Low, low-degrees}
+use Rattle.decks.specs.Refusal.{passed, Low, low-degrees}
 
 pub record Fit (d : Deck) : Type 0 where
   pub low-m : d .m ≤ 16

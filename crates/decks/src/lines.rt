@@ -5,7 +5,7 @@ use crate::text::put_number;
 use crate::text::put_spaced_number;
 use crate::text::put_word;
 ghost use Prim.Native.Nat.{_+_, _*_, _≤_};
-ghost use mathlib.Core.List.{[], _∷_, _++_};
+ghost use mathlib.Core.List.{[], _∷_};
 ghost use lib.ListN.{length, take};
 ghost use Rattle.decks.specs.Text.{line, openWord, pointWord, readWord, deckWord, endWord};
 ghost use Rattle.decks.specs.Line.{degreeText, readText};
@@ -17,7 +17,7 @@ fn word_line(word: &[u8], out: &mut [u8]) -> usize
     ensures { λ r. ⌜ Begins (now (out .entry)) (line (now (word .entry)) []) (now (out .exit)) r ⌝ }
 {
     let next = put_word(word, out, 0);
-    put_byte(10, out, next)
+    put_byte(b'\n', out, next)
 }
 
 // A word and a number, of 20 digits at most.
@@ -27,7 +27,7 @@ fn number_line(word: &[u8], a: u64, out: &mut [u8]) -> usize
 {
     let after = put_word(word, out, 0);
     let next = put_spaced_number(a, out, after);
-    put_byte(10, out, next)
+    put_byte(b'\n', out, next)
 }
 
 // A word and two numbers.
@@ -38,7 +38,7 @@ fn pair_line(word: &[u8], a: u64, b: u64, out: &mut [u8]) -> usize
     let after = put_word(word, out, 0);
     let second = put_spaced_number(a, out, after);
     let next = put_spaced_number(b, out, second);
-    put_byte(10, out, next)
+    put_byte(b'\n', out, next)
 }
 
 // end
@@ -110,5 +110,5 @@ pub fn read_line(degree: u32, zero: u32, entries: &[u32], count: usize, out: &mu
     let before = put_word(b"read 0 ", out, 0);
     let row = put_degree(degree, zero, out, before);
     let next = put_entries(entries, count, out, row);
-    put_byte(10, out, next)
+    put_byte(b'\n', out, next)
 }

@@ -34,10 +34,10 @@ pub fn put_number(n: u64, out: &mut [u8], at: usize) -> usize
     ensures { λ r. ⌜ Put (now (out .entry)) at (decimal n) (now (out .exit)) r ⌝ }
 {
     if n < 10 {
-        return put_byte(48 + n as u8, out, at);
+        return put_byte(b'0' + n as u8, out, at);
     }
     let next = put_number(n / 10, out, at);
-    put_byte(48 + (n % 10) as u8, out, next)
+    put_byte(b'0' + (n % 10) as u8, out, next)
 }
 
 // A space and a number.
@@ -45,7 +45,7 @@ pub fn put_spaced_number(n: u64, out: &mut [u8], at: usize) -> usize
     requires { ⌜ at + suc (length (decimal n)) ≤ length (now out) ⌝ }
     ensures { λ r. ⌜ Put (now (out .entry)) at (32 ∷ decimal n) (now (out .exit)) r ⌝ }
 {
-    let next = put_byte(32, out, at);
+    let next = put_byte(b' ', out, at);
     put_number(n, out, next)
 }
 

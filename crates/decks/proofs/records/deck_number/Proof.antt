@@ -1,7 +1,5 @@
 -- `decks::records::deck_number`: each return is the first refusal that the tests find.
-use Prim.Native.Nat.{ℕ}
-use mathlib.Core.Bool.{true, false, not}
-use mathlib.Core.List.{List}
+use mathlib.Core.Bool.{not}
 use mathlib.Core.Path.{_≡_, refl, sym, ap, _∙_}
 use native.Mathlib.Omega.{arith}
 use borrow.Author.Needs.{needs}
