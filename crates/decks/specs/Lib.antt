@@ -2,3 +2,14 @@
 pub mod Text
 pub mod Deck
 pub mod Figure
+-- what the functions that write text promise
+pub mod Buffer
+pub mod Line
+-- laws
+pub mod BufferLaws
+pub mod TextLaws
+pub mod LineLaws
+pub mod Refusal
+pub mod State
+pub mod AnswerLaws
+pub mod DeckLaws
