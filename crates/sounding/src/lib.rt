@@ -1,0 +1,226 @@
+// The test that every offer, lot and read makes once per call: whether a record is sound.
+use job::Job;
+ghost use mathlib.Core.Path.{_≡_};
+ghost use mathlib.Core.Bool.{true};
+ghost use Prim.Native.Nat.{_+_, _*_, _<_, _≤_};
+ghost use lib.ListN.{length, drop};
+ghost use Rattle.residue.specs.Prime.{Prime};
+ghost use Rattle.scope.specs.Pair.{tables};
+ghost use Rattle.scope.specs.Point.{enough};
+ghost use Rattle.points.specs.Table.{Table};
+ghost use Rattle.job.specs.Sound.{zeros, soundPair, soundPoints, sound?};
+ghost use Rattle.sounding.specs.Parts.{soundNumbers, soundTable, soundTables, Degrees, emptySlots, keptAt, keptPairs};
+
+// Whether every entry from k on is 0
+pub fn zeros_from(t: &[u32], k: usize) -> bool
+    ensures { λ r. ⌜ r ≡ zeros (drop k (now (t .entry))) ⌝ }
+{
+    let mut i = k;
+    while i < t.len() {
+        if t[i] != 0 {
+            return false;
+        }
+        i += 1;
+    }
+    true
+}
+
+// Whether a table is one that an accepted opening lays out: entries below p, zeros outside its m + 1 rows, a leading
+// row that is not zero, and d the largest power of y that occurs
+fn sound_table(p: u32, t: &[u32], m: u32, d: u32) -> bool
+    requires { ⌜ length (now t) ≡ 289 ⌝ }
+    requires { ⌜ m ≤ 16 ⌝ }
+    ensures { λ r. ⌜ r ≡ soundTable p m d (now (t .entry)) ⌝ }
+{
+    if checks::over(p, t) {
+        return false;
+    }
+    let rows = m as usize;
+    let end = (rows + 1) * 17;
+    if !zeros_from(t, end) {
+        return false;
+    }
+    if checks::no_lead(m, 16, &t[..end]) {
+        return false;
+    }
+    d as usize == points::true_degree(t, rows)
+}
+
+// How many points a pair of these degrees needs: D + 1
+fn points_needed(m: usize, da: usize, n: usize, db: usize) -> usize
+    requires { ⌜ m ≤ 16 ⌝ }
+    requires { ⌜ da ≤ 16 ⌝ }
+    requires { ⌜ n ≤ 16 ⌝ }
+    requires { ⌜ db ≤ 16 ⌝ }
+    ensures { λ r. ⌜ r ≡ n * da + m * db + 1 ⌝ }
+{
+    n * da + m * db + 1
+}
+
+// Whether as many usable points exist as are needed
+fn enough_points<'a>(
+    p: u32,
+    ta: &'a [u32],
+    m: usize,
+    da: usize,
+    tb: &'a [u32],
+    n: usize,
+    db: usize,
+) -> bool
+    requires { ⌜ 0 < p ⌝ }
+    requires { ⌜ Degrees m da (now ta) ⌝ }
+    requires { ⌜ Degrees n db (now tb) ⌝ }
+    ensures { λ r. ⌜ r ≡ enough (tables p m 16 n 16 (now (ta .entry)) (now (tb .entry))) ⌝ }
+{
+    let wanted = points_needed(m, da, n, db);
+    points::enough_usable(p, ta, m, da, tb, n, db, wanted)
+}
+
+// Whether the modulus and the degrees in x are those of an accepted opening
+fn sound_numbers(p: u32, m: u32, n: u32) -> bool
+    ensures { λ r. ⌜ r ≡ soundNumbers p m n ⌝ }
+{
+    if checks::outside(p) {
+        return false;
+    }
+    if checks::composite(p) {
+        return false;
+    }
+    if checks::too_high(m) {
+        return false;
+    }
+    !checks::too_high(n)
+}
+
+// Whether both tables are, and as many usable points exist as they need
+fn sound_tables<'a>(p: u32, ta: &'a [u32], m: u32, da: u32, tb: &'a [u32], n: u32, db: u32) -> bool
+    requires { ⌜ 0 < p ⌝ }
+    requires { ⌜ length (now ta) ≡ 289 ⌝ }
+    requires { ⌜ m ≤ 16 ⌝ }
+    requires { ⌜ length (now tb) ≡ 289 ⌝ }
+    requires { ⌜ n ≤ 16 ⌝ }
+    ensures { λ r. ⌜ r ≡ soundTables p m da n db (now (ta .entry)) (now (tb .entry)) ⌝ }
+{
+    if !sound_table(p, ta, m, da) {
+        return false;
+    }
+    if !sound_table(p, tb, n, db) {
+        return false;
+    }
+    enough_points(p, ta, m as usize, da as usize, tb, n as usize, db as usize)
+}
+
+// Whether modulus, degrees and coefficients are those of an accepted opening
+pub fn sound_pair(j: Job) -> bool
+    ensures { λ r. ⌜ r ≡ soundPair j ⌝ }
+{
+    if !sound_numbers(j.p, j.m, j.n) {
+        return false;
+    }
+    sound_tables(j.p, &j.a, j.m, j.da, &j.b, j.n, j.db)
+}
+
+// Whether the pair at i would have been kept after those before it: a point below p, new and usable, with its value
+fn kept_pair<'a>(
+    p: u32,
+    ta: &'a [u32],
+    m: usize,
+    da: usize,
+    tb: &'a [u32],
+    n: usize,
+    db: usize,
+    points: &'a [u32],
+    values: &'a [u32],
+    i: usize,
+) -> bool
+    requires { ⌜ 2 ≤ p ⌝ }
+    requires { ⌜ Prime p ⌝ }
+    requires { ⌜ Table m da (now ta) ⌝ }
+    requires { ⌜ Table n db (now tb) ⌝ }
+    requires { ⌜ i < length (now points) ⌝ }
+    requires { ⌜ i < length (now values) ⌝ }
+    ensures { λ r. ⌜ r ≡ keptAt (tables p m 16 n 16 (now (ta .entry)) (now (tb .entry))) (now (points .entry)) (now (values .entry)) i ⌝ }
+{
+    let a = points[i];
+    if p <= a {
+        return false;
+    }
+    if offers::is_among(points, i, a) {
+        return false;
+    }
+    if !points::usable_at(p, ta, m, da, tb, n, db, a) {
+        return false;
+    }
+    values[i] == offers::kept_at(p, ta, m, da, tb, n, db, a)
+}
+
+// Whether each of the first count pairs would
+fn kept_pairs<'a>(
+    p: u32,
+    ta: &'a [u32],
+    m: usize,
+    da: usize,
+    tb: &'a [u32],
+    n: usize,
+    db: usize,
+    points: &'a [u32],
+    values: &'a [u32],
+    count: usize,
+) -> bool
+    requires { ⌜ 2 ≤ p ⌝ }
+    requires { ⌜ Prime p ⌝ }
+    requires { ⌜ Table m da (now ta) ⌝ }
+    requires { ⌜ Table n db (now tb) ⌝ }
+    requires { ⌜ count ≤ length (now points) ⌝ }
+    requires { ⌜ count ≤ length (now values) ⌝ }
+    ensures { λ r. ⌜ r ≡ keptPairs (tables p m 16 n 16 (now (ta .entry)) (now (tb .entry))) (now (points .entry)) (now (values .entry)) count ⌝ }
+{
+    let mut i = 0;
+    while i < count {
+        if !kept_pair(p, ta, m, da, tb, n, db, points, values, i) {
+            return false;
+        }
+        i += 1;
+    }
+    true
+}
+
+// Whether the slots from count on are empty
+fn empty_slots<'a>(points: &'a [u32], values: &'a [u32], count: usize) -> bool
+    ensures { λ r. ⌜ r ≡ emptySlots (now (points .entry)) (now (values .entry)) count ⌝ }
+{
+    if !zeros_from(points, count) {
+        return false;
+    }
+    zeros_from(values, count)
+}
+
+// Whether the kept pairs of a record whose pair is sound are points that were kept with their values, no more of them
+// than are needed, and the other slots empty
+pub fn sound_points(j: Job) -> bool
+    requires { ⌜ soundPair j ≡ true ⌝ }
+    ensures { λ r. ⌜ r ≡ soundPoints j ⌝ }
+{
+    let m = j.m as usize;
+    let n = j.n as usize;
+    let da = j.da as usize;
+    let db = j.db as usize;
+    let count = j.count as usize;
+    if points_needed(m, da, n, db) < count {
+        return false;
+    }
+    if !empty_slots(&j.points, &j.values, count) {
+        return false;
+    }
+    kept_pairs(j.p, &j.a, m, da, &j.b, n, db, &j.points, &j.values, count)
+}
+
+// Whether a record is sound; any record may be asked
+pub fn is_sound(j: Job) -> bool
+    ensures { λ r. ⌜ r ≡ sound? j ⌝ }
+{
+    if !sound_pair(j) {
+        return false;
+    }
+    sound_points(j)
+}
