@@ -3,7 +3,10 @@
 // gather it (specs/Results.antt).
 ghost use mathlib.Core.Path.{_≡_};
 ghost use Rattle.rows.specs.Which.{first?, pick};
-ghost use Rattle.kernel.specs.Results.{RowResult, PlainResult, DivisionResult, DivisorResult};
+ghost use Rattle.kernel.specs.Results.{RowResult, PlainResult, DivisionResult, DivisorResult, OpenResult, OfferResult, LotResult, ReadResult, ShotResult};
+use job::Job;
+use job::JobAnswer;
+use job::ReadAnswer;
 
 // value: the resultant. steps: the coefficient steps of the remainder sequence.
 #[repr(C)]
@@ -87,4 +90,69 @@ pub fn divisor<'a>(a: &'a [u32], b: &'a [u32]) -> &'a [u32]
     ensures { λ r. ⌜ r .ptr ≡ pick (first? (now (a .entry)) (now (b .entry))) (a .entry .ptr) (b .entry .ptr) ⌝ }
 {
     rows::divisor(a, b)
+}
+
+// Opens a job on A of degrees m in x and e in y, and B of degrees n and f; the strict opening.
+pub fn open(p: u32, m: u32, e: u32, n: u32, f: u32, a: &[u32], b: &[u32]) -> JobAnswer
+    ensures { λ r. ⌜ OpenResult p m e n f (now (a .entry)) (now (b .entry)) r ⌝ }
+{
+    opening::strict(p, m, e, n, f, a, b)
+}
+
+// Offers one point.
+pub fn offer(j: Job, a: u32) -> JobAnswer
+    ensures { λ r. ⌜ OfferResult j a r ⌝ }
+{
+    if !sounding::is_sound(j) {
+        return JobAnswer { number: 16, job: j };
+    }
+    offers::offer_sound(j, a)
+}
+
+// Offers points from left to right, and writes one answer byte for each.
+pub fn lot(j: Job, points: &[u32], answers: &mut [u8]) -> JobAnswer
+    ensures { λ r. ⌜ LotResult j (now (points .entry)) (now (answers .entry)) r (now (answers .exit)) ⌝ }
+{
+    if !sounding::is_sound(j) {
+        return JobAnswer { number: 16, job: j };
+    }
+    if answers.len() < points.len() {
+        return JobAnswer { number: 9, job: j };
+    }
+    let after = offers::lot_sound(j, points, answers);
+    JobAnswer {
+        number: 0,
+        job: after,
+    }
+}
+
+// Reads the determinant's coefficients, lowest power of y first.
+pub fn read(j: Job, out: &mut [u32]) -> ReadAnswer
+    ensures { λ r. ⌜ ReadResult j (now (out .entry)) r (now (out .exit)) ⌝ }
+{
+    if !sounding::is_sound(j) {
+        return ReadAnswer {
+            number: 16,
+            wanted: 0,
+            degree: 0,
+            zero: 0,
+        };
+    }
+    reads::read_sound(j, out)
+}
+
+// Opening, the smallest points that suffice, and the read.
+pub fn one_shot(
+    p: u32,
+    m: u32,
+    e: u32,
+    n: u32,
+    f: u32,
+    a: &[u32],
+    b: &[u32],
+    out: &mut [u32],
+) -> ReadAnswer
+    ensures { λ r. ⌜ ShotResult p m e n f (now (a .entry)) (now (b .entry)) (now (out .entry)) r (now (out .exit)) ⌝ }
+{
+    reads::one_shot(p, m, e, n, f, a, b, out)
 }

@@ -3,7 +3,10 @@
 ghost use mathlib.Core.Path.{_≡_};
 ghost use lib.ListN.{length};
 ghost use Rattle.rows.specs.Which.{lower, first?, pick};
-ghost use Rattle.kernel.specs.Results.{RowResult, PlainResult, DivisionResult};
+ghost use Rattle.kernel.specs.Results.{RowResult, PlainResult, DivisionResult, OpenResult, OfferResult, LotResult, ReadResult, ShotResult};
+use job::Job;
+use job::JobAnswer;
+use job::ReadAnswer;
 use kernel::DivisionAnswer;
 use kernel::PlainAnswer;
 use kernel::RowAnswer;
@@ -52,4 +55,56 @@ pub extern "C" fn pukilembo_divisor(a: &[u32], b: &[u32]) -> Stretch
         side: 1,
         length: second,
     }
+}
+
+#[no_mangle]
+pub extern "C" fn pukilembo_open(
+    p: u32,
+    m: u32,
+    e: u32,
+    n: u32,
+    f: u32,
+    a: &[u32],
+    b: &[u32],
+) -> JobAnswer
+    ensures { λ r. ⌜ OpenResult p m e n f (now (a .entry)) (now (b .entry)) r ⌝ }
+{
+    kernel::open(p, m, e, n, f, a, b)
+}
+
+#[no_mangle]
+pub extern "C" fn pukilembo_offer(j: Job, a: u32) -> JobAnswer
+    ensures { λ r. ⌜ OfferResult j a r ⌝ }
+{
+    kernel::offer(j, a)
+}
+
+#[no_mangle]
+pub extern "C" fn pukilembo_lot(j: Job, points: &[u32], answers: &mut [u8]) -> JobAnswer
+    ensures { λ r. ⌜ LotResult j (now (points .entry)) (now (answers .entry)) r (now (answers .exit)) ⌝ }
+{
+    kernel::lot(j, points, answers)
+}
+
+#[no_mangle]
+pub extern "C" fn pukilembo_read(j: Job, out: &mut [u32]) -> ReadAnswer
+    ensures { λ r. ⌜ ReadResult j (now (out .entry)) r (now (out .exit)) ⌝ }
+{
+    kernel::read(j, out)
+}
+
+#[no_mangle]
+pub extern "C" fn pukilembo_one_shot(
+    p: u32,
+    m: u32,
+    e: u32,
+    n: u32,
+    f: u32,
+    a: &[u32],
+    b: &[u32],
+    out: &mut [u32],
+) -> ReadAnswer
+    ensures { λ r. ⌜ ShotResult p m e n f (now (a .entry)) (now (b .entry)) (now (out .entry)) r (now (out .exit)) ⌝ }
+{
+    kernel::one_shot(p, m, e, n, f, a, b, out)
 }
