@@ -3,6 +3,7 @@
 
 pub mod decks;
 pub mod definition;
+pub mod edges;
 pub mod jobs;
 pub mod kernel;
 pub mod known;

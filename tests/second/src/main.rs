@@ -1,6 +1,6 @@
 //! `second [CASES [SEED]]` compares the kernel with the definition; the seed is printed, and gives the same cases again.
 
-use second::{decks, jobs, known, rows};
+use second::{decks, edges, jobs, known, rows};
 use std::path::Path;
 
 fn main() {
@@ -17,6 +17,7 @@ fn main() {
     let deck = Path::new(env!("CARGO_MANIFEST_DIR")).join("../../target/bin/deck");
     let reports = [
         known::compare(),
+        edges::compare(),
         rows::compare(4 * cases, seed),
         jobs::compare(cases, seed),
         decks::compare(&deck, cases, seed),
