@@ -11,12 +11,12 @@
 --   filling-below       while points are wanted a is a point
 --   filling-next        one turn
 --   filling-last        the job is complete: it was offered the smallest points that suffice
-use Prim.Native.Nat.{ℕ, zero, suc, _+_, _<_, _≤_, min}
+use Prim.Native.Nat.{ℕ, suc, _+_, _<_, _≤_, min}
 use native.Mathlib.Decide.{decLe}
 use native.Mathlib.Numerals.{add-one}
 use native.Mathlib.Omega.{arith}
 use mathlib.Core.Bool.{Bool, true, false}
-use mathlib.Core.List.{List, [], _∷_, _++_}
+use mathlib.Core.List.{List, [], _∷_}
 use mathlib.Core.Logic.{inl}
 use mathlib.Core.Path.{_≡_, refl, sym, ap, _∙_, subst}
 use lib.ListN.{length, take, length-append}

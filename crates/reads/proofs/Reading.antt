@@ -8,7 +8,7 @@
 --   read-short              9: the output is short
 --   written-interpolant     the interpolated polynomial's coefficients are the determinant's
 --   read-complete           0: the output holds the determinant
-use Prim.Native.Nat.{ℕ, zero, suc, _+_, _-_, _<_, _≤_}
+use Prim.Native.Nat.{ℕ, zero, suc, _-_, _<_, _≤_}
 use native.Mathlib.Omega.{arith}
 use mathlib.Core.Bool.{Bool, cond, not, _||_}
 use mathlib.Core.List.{List, _++_}

@@ -1,8 +1,6 @@
 -- `reads::filled`: each turn offers the next number.
 use Prim.Native.Nat.{_-_, _<_}
 use native.Mathlib.Omega.{arith}
-use Rattle.scope.specs.Point.{needed}
-use Rattle.job.specs.Job.{pairOf}
 use Rattle.reads.proofs.Filling.{Filling, filling-first, filling-standing, filling-below, filling-next, filling-last}
 use Rattle.reads.proofs.filled.Statement.{statement}
 use Rattle.reads.proofs.filled.Tie as tie
