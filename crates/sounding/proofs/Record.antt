@@ -1,35 +1,35 @@
 -- The test of a record in its parts.
 --
---   pairParts, pointParts        the parts of the tests of the pair and of the kept pairs, one to a place
---   pair-fails, points-fail      one of them fails
---   pair-decided, points-decided all but the last hold: it decides
---   Opened j                     what a record whose pair is sound holds: a modulus, and two tables with the degrees that it says
---   pair-opened                  it does
-use Prim.Native.Nat.{ℕ, _+_, _*_, _≤_, _<_}
-use native.Mathlib.Omega.{arith}
+--   Lengths j                       how many entries the arrays of the record have
+--   record-lengths                  every value of the type has as many
+--   pair-fails, pair-decided        the test of the pair, by its first part
+--   pair-opened                     what a record whose pair is sound holds; points-asks: what the test of its kept pairs requires
+--   points-kept                     the test of the kept pairs
+--   record-shaped                   the shape that the test asks of a record
+--   record-fails, record-decided    the whole test, by its parts
+use Prim.Native.Nat.{ℕ, _+_, _*_}
 use mathlib.Core.Bool.{Bool, true, false, not, _&&_, and-assoc, and-eq-true-iff}
 use mathlib.Core.List.{List, [], _∷_, map}
-use mathlib.Core.Path.{_≡_, refl, sym, ap, _∙_, subst}
+use mathlib.Core.Path.{_≡_, refl, sym, ap, _∙_}
 use lib.Dec.{leb, eqb}
 use lib.ListN.{length, getD, take, drop, length-map}
 use mir.Val.{Val}
 use denote.Laws.{Is}
 use denote.Struct.Declared.{row}
-use borrow.Author.Tests.{not-true, eq-eqb, le-leb, lt-leb}
-use Rattle.residue.specs.Prime.{Modulus}
+use borrow.Author.Tests.{eq-eqb}
 use Rattle.scope.specs.Pair.{degreeA, degreeB, tables}
 use Rattle.scope.specs.Point.{kept, needed, enough}
-use Rattle.scope.specs.Number.{outside, composite, tooHigh, over, noLead}
+use Rattle.scope.specs.Number.{over, noLead}
 use Rattle.job.proofs.Job.{the-type}
 use Rattle.job.specs.declared.Job.{Job}
 use Rattle.job.specs.Job.{pairOf, keptPoints}
 use Rattle.job.specs.Sound.{zeros, same, good, soundPair, soundPoints, shaped, sound?}
-use Rattle.job.specs.TestLaws.{modulus-tests, tooHigh-false}
-use Rattle.job.specs.StandingLaws.{needed-low}
-use Rattle.job.specs.SoundTests.{conj, Every, done, _also_, conj-each, every-conj}
-use Rattle.sounding.specs.Parts.{soundNumbers, soundTable, soundTables, Degrees, emptySlots, keptPairs}
-use Rattle.sounding.proofs.Tests.{failed, decided, agree}
-use Rattle.sounding.proofs.Tables.{tablesTests, table-degrees, needed-is}
+use Rattle.job.specs.SoundTests.{done, _also_, conj-each, every-conj}
+use Rattle.sounding.specs.Parts.{soundNumbers, soundTable, soundTables, keptPairs, soundKept}
+use Rattle.sounding.specs.Opened.{Numbers, Opened}
+use Rattle.sounding.proofs.Tests.{failed, decided}
+use Rattle.sounding.proofs.Numbers.{numbers}
+use Rattle.sounding.proofs.Opened.{tablesTests, table-degrees}
 
 and-left-comm : (a b c : Bool) → (a && (b && c)) ≡ (b && (a && c))
 and-left-comm true b c = refl
@@ -41,37 +41,6 @@ by-table : (x o o′ z z′ l l′ d d′ e : Bool)
     → (x && o && o′ && z && z′ && l && l′ && d && d′ && e) ≡ (x && ((o && z && l && d) && (o′ && z′ && l′ && d′) && e))
 by-table x o o′ z z′ l l′ d d′ e = simp (and-assoc, and-left-comm)
 
-by-slot : (x y z g s : Bool) → (x && y && z && g && s) ≡ (x && (y && z) && (g && s))
-by-slot x y z g s = simp and-assoc
-
-module _ (p m n : ℕ) where
-  abbrev pub numberTests : List Bool
-  numberTests = not (outside p) ∷ not (composite p) ∷ not (tooHigh m) ∷ not (tooHigh n) ∷ []
-
-  pub numbers-fail : (k : ℕ) → getD numberTests k true ≡ false → false ≡ soundNumbers p m n
-  unfolding soundNumbers
-  numbers-fail k h = sym (failed numberTests k h)
-
-  pub numbers-decided : outside p ≡ false → composite p ≡ false → tooHigh m ≡ false → {r : Bool} → r ≡ tooHigh n → not r ≡ soundNumbers p m n
-  unfolding soundNumbers
-  numbers-decided o c t e = ap not e ∙ sym (decided (ap not o also ap not c also ap not t also done) (not (tooHigh n)))
-
-  pub record Numbers : Type 0 where
-    pub modulus : Modulus p
-    pub low-m : m ≤ 16
-    pub low-n : n ≤ 16
-
-  pub numbers : soundNumbers p m n ≡ true → Numbers
-  unfolding soundNumbers
-  numbers h = record {
-    modulus = modulus-tests p .0 (not-true _ (part 0), not-true _ (part 1));
-    low-m = tooHigh-false m .0 (not-true _ (part 2));
-    low-n = tooHigh-false n .0 (not-true _ (part 3));
-  }
-    where
-      part : (k : ℕ) → getD numberTests k true ≡ true
-      part = conj-each numberTests h
-
 -- a value of a declared type holds an array through a map that changes nothing
 long : (n : ℕ) (t : List ℕ) → length (map (λ x. x) t) ≡ n → length t ≡ n
 long n t h = sym (length-map t (λ x. x)) ∙ h
@@ -82,6 +51,17 @@ module _ (j : Job) where
     pub b : length (j .b) ≡ 289
     pub points : length (j .points) ≡ 513
     pub values : length (j .values) ≡ 513
+
+  -- what the type says of every value
+  pub record-lengths : (vs : List Val) → Is (row the-type) j vs → Lengths
+  record-lengths vs h =
+      let arrays = h .1 .1 .1 .1 .1 .1 .1 .1 in
+      record {
+        a = long 289 (j .a) (arrays .0 .1 .0 .1);
+        b = long 289 (j .b) (arrays .1 .0 .1 .0 .1);
+        points = long 513 (j .points) (arrays .1 .1 .0 .1 .0 .1);
+        values = long 513 (j .values) (arrays .1 .1 .1 .0 .1 .0 .1);
+      }
 
   pair-parts : soundPair j ≡ (soundNumbers (j .p) (j .m) (j .n) && soundTables (j .p) (j .m) (j .da) (j .n) (j .db) (j .a) (j .b))
   unfolding soundPair soundNumbers soundTables soundTable degreeA degreeB pairOf tables
@@ -100,12 +80,7 @@ module _ (j : Job) where
       → r ≡ soundPair j
   pair-decided h e = e ∙ sym (pair-parts ∙ ap (λ (b : Bool). b && soundTables (j .p) (j .m) (j .da) (j .n) (j .db) (j .a) (j .b)) h)
 
-  pub record Opened : Type 0 where
-    pub modulus : Modulus (j .p)
-    pub degrees-a : Degrees (j .m) (j .da) (j .a)
-    pub degrees-b : Degrees (j .n) (j .db) (j .b)
-
-  pub pair-opened : Lengths → soundPair j ≡ true → Opened
+  pair-opened : Lengths → soundPair j ≡ true → Opened (j .p) (j .m) (j .da) (j .n) (j .db) (j .a) (j .b)
   unfolding soundTables
   pair-opened l h = record {
     modulus = range .modulus;
@@ -122,41 +97,15 @@ module _ (j : Job) where
       part : (k : ℕ) → getD (tablesTests (j .p) (j .m) (j .da) (j .n) (j .db) (j .a) (j .b)) k true ≡ true
       part = conj-each (tablesTests (j .p) (j .m) (j .da) (j .n) (j .db) (j .a) (j .b)) (parts .1)
 
-  -- the number of kept points against the number needed
-  module _ (o : Opened) {w : ℕ} (e : w ≡ j .n * j .da + j .m * j .db + 1) where
-    needed-same : needed (pairOf j) ≡ w
-    unfolding pairOf tables
-    needed-same = needed-is (j .p) (o .degrees-a) (o .degrees-b) ∙ sym e
+  pub points-asks : Lengths → soundPair j ≡ true
+      → Opened (j .p) (j .m) (j .da) (j .n) (j .db) (j .a) (j .b) × ((length (j .points) ≡ 513) × (length (j .values) ≡ 513))
+  points-asks l h = (pair-opened l h, (l .points, l .values))
 
-    pub count-many : w < j .count → leb (j .count) (needed (pairOf j)) ≡ false
-    count-many h = lt-leb (j .count) (needed (pairOf j)) (omega (arith, needed-same))
-
-    pub count-few : j .count ≤ w → leb (j .count) (needed (pairOf j)) ≡ true
-    count-few h = le-leb (j .count) (needed (pairOf j)) (omega (arith, needed-same))
-
-    pub count-fits : j .count ≤ w → j .count ≤ 513
-    count-fits h = omega (arith, needed-same, needed-low j (o .degrees-a .rows) (o .degrees-b .rows))
-
-  -- the parts of the test of the kept pairs
-  abbrev pub pointTests : List Bool
-  pointTests =
-      leb (j .count) (needed (pairOf j))
-      ∷ emptySlots (j .points) (j .values) (j .count)
-      ∷ keptPairs (pairOf j) (j .points) (j .values) (j .count)
-      ∷ []
-
-  point-parts : soundPoints j ≡ conj pointTests
-  unfolding soundPoints emptySlots keptPairs keptPoints
-  point-parts =
-      by-slot (leb (j .count) (needed (pairOf j))) (zeros (drop (j .count) (j .points))) (zeros (drop (j .count) (j .values)))
-      (good (pairOf j) [] (keptPoints j)) (same (take (j .count) (j .values)) (map (kept (pairOf j)) (keptPoints j)))
-
-  pub points-fail : (k : ℕ) → getD pointTests k true ≡ false → false ≡ soundPoints j
-  points-fail k h = sym (point-parts ∙ failed pointTests k h)
-
-  pub points-decided : leb (j .count) (needed (pairOf j)) ≡ true → emptySlots (j .points) (j .values) (j .count) ≡ true
-      → {r : Bool} → r ≡ keptPairs (pairOf j) (j .points) (j .values) (j .count) → r ≡ soundPoints j
-  points-decided f s e = e ∙ sym (point-parts ∙ decided (f also s also done) (keptPairs (pairOf j) (j .points) (j .values) (j .count)))
+  pub points-kept : soundKept (tables (j .p) (j .m) 16 (j .n) 16 (j .a) (j .b)) (j .points) (j .values) (j .count) ≡ soundPoints j
+  unfolding soundPoints soundKept keptPairs keptPoints pairOf tables
+  points-kept =
+      sym (and-assoc (leb (j .count) (needed (pairOf j)) && zeros (drop (j .count) (j .points)) && zeros (drop (j .count) (j .values)))
+      (good (pairOf j) [] (keptPoints j)) (same (take (j .count) (j .values)) (map (kept (pairOf j)) (keptPoints j))))
 
   pub record-shaped : Lengths → shaped j ≡ true
   unfolding shaped
@@ -175,12 +124,3 @@ module _ (j : Job) where
   pub record-decided : shaped j ≡ true → soundPair j ≡ true → {r : Bool} → r ≡ soundPoints j → r ≡ sound? j
   unfolding sound?
   record-decided s h e = e ∙ sym (decided (s also h also done) (soundPoints j))
-
-  -- what every value of the type holds
-  pub record-lengths : (vs : List Val) → Is (row the-type) j vs → Lengths
-  record-lengths vs h = record {
-    a = long 289 (j .a) (h .1 .1 .1 .1 .1 .1 .1 .1 .0 .1 .0 .1);
-    b = long 289 (j .b) (h .1 .1 .1 .1 .1 .1 .1 .1 .1 .0 .1 .0 .1);
-    points = long 513 (j .points) (h .1 .1 .1 .1 .1 .1 .1 .1 .1 .1 .0 .1 .0 .1);
-    values = long 513 (j .values) (h .1 .1 .1 .1 .1 .1 .1 .1 .1 .1 .1 .0 .1 .0 .1);
-  }

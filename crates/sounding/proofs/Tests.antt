@@ -2,7 +2,6 @@
 --
 --   failed       one test of the list fails: so they do together
 --   decided      all but the last hold: the last decides
---   agree        two tests that hold in the same cases are the same
 use Prim.Native.Nat.{ℕ}
 use mathlib.Core.Bool.{Bool, true, false, false≢true}
 use mathlib.Core.List.{List, [], _∷_, _++_}
@@ -25,8 +24,3 @@ every-more (_also_ x e) = x also every-more e
 pub decided : {bs : List Bool} → Every bs → (b : Bool) → conj (bs ++ b ∷ []) ≡ b
 decided {bs} e true = every-conj (every-more e)
 decided {bs} e false = failed (bs ++ false ∷ []) (length bs) (getD-append-seam bs false [] true)
-
-pub agree : (a b : Bool) → (a ≡ true → b ≡ true) → (b ≡ true → a ≡ true) → a ≡ b
-agree true b there back = sym (there refl)
-agree false true there back = back refl
-agree false false there back = refl

@@ -5,18 +5,15 @@
 --   clear-more      the entry at i is 0
 --   clear-broken    it is not
 --   clear-all       every entry is passed
---   slots-fail      a point's slot is not empty
---   slots-decided   those of the points are: those of the values decide
 use Prim.Native.Nat.{ℕ, _+_, _≤_, _<_}
 use native.Mathlib.Numerals.{add-one}
-use mathlib.Core.Bool.{Bool, true, false, _&&_}
+use mathlib.Core.Bool.{true, false}
 use mathlib.Core.List.{List}
-use mathlib.Core.Path.{_≡_, refl, sym, ap, _∙_}
+use mathlib.Core.Path.{_≡_, refl, ap, _∙_}
 use lib.ListN.{length, getD, drop, drop-of-length-le}
 use lib.Seq.{drop-cons}
 use borrow.Author.Tests.{eq-eqb, ne-eqb}
 use Rattle.job.specs.Sound.{zeros}
-use Rattle.sounding.specs.Parts.{emptySlots}
 
 pub record Clear (k : ℕ) (t : List ℕ) (i : ℕ) : Type 0 where
   pub rest : zeros (drop k t) ≡ zeros (drop i t)
@@ -35,12 +32,3 @@ clear-broken {k} {i} {t} c l h = c .rest ∙ rw (drop-cons t i 0 l, ne-eqb (getD
 pub clear-all : {k i : ℕ} {t : List ℕ} → Clear k t i → length t ≤ i → zeros (drop k t) ≡ true
 unfolding zeros
 clear-all {k} {i} {t} c l = c .rest ∙ ap zeros (drop-of-length-le t l)
-
-module _ (points values : List ℕ) (n : ℕ) where
-  pub slots-fail : zeros (drop n points) ≡ false → false ≡ emptySlots points values n
-  unfolding emptySlots
-  slots-fail h = sym (ap (λ (b : Bool). b && zeros (drop n values)) h)
-
-  pub slots-decided : zeros (drop n points) ≡ true → {r : Bool} → r ≡ zeros (drop n values) → r ≡ emptySlots points values n
-  unfolding emptySlots
-  slots-decided h e = e ∙ sym (ap (λ (b : Bool). b && zeros (drop n values)) h)

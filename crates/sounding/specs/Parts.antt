@@ -3,18 +3,16 @@
 --   soundNumbers p m n             the modulus and the degrees in x are those of an accepted opening
 --   soundTable p m d t             a table of 289 entries with degrees m in x and d in y, as an accepted opening lays it out
 --   soundTables p m da n db s t    two such tables, with as many usable points as they need
---   Degrees m d t                  t has 289 entries, m is at most 16, and d is the largest power of y that occurs up to row m
---   emptySlots points values n     the slots from n on are empty
 --   keptAt P points values i       the pair at i would have been kept after those before it, and with this value
 --   keptPairs P points values n    so would each of the first n
-use Prim.Native.Nat.{ℕ, _+_, _*_, _≤_}
+--   soundKept P points values n    they are no more than are needed, each would have been kept, and the other slots are empty
+use Prim.Native.Nat.{ℕ, _+_, _*_}
 use mathlib.Core.Bool.{Bool, not, _&&_}
 use mathlib.Core.List.{List, [], map}
-use mathlib.Core.Path.{_≡_}
-use lib.Dec.{eqb}
-use lib.ListN.{length, getD, take, drop}
+use lib.Dec.{leb, eqb}
+use lib.ListN.{getD, take, drop}
 use Rattle.scope.specs.Pair.{Pair, term, tables, occurs, largest}
-use Rattle.scope.specs.Point.{kept, enough}
+use Rattle.scope.specs.Point.{kept, needed, enough}
 use Rattle.scope.specs.Number.{outside, composite, tooHigh, over, noLead, pointNumber}
 use Rattle.job.specs.Sound.{zeros, same, good}
 
@@ -27,16 +25,11 @@ soundTable p m d t = not (over p t) && zeros (drop ((m + 1) * 17) t) && not (noL
 unfoldable pub soundTables : (p m da n db : ℕ) → List ℕ → List ℕ → Bool
 soundTables p m da n db s t = soundTable p m da s && soundTable p n db t && enough (tables p m 16 n 16 s t)
 
-pub record Degrees (m d : ℕ) (t : List ℕ) : Type 0 where
-  pub entries : length t ≡ 289
-  pub rows : m ≤ 16
-  pub largest : d ≡ largest 16 (occurs m (term 16 t))
-
-unfoldable pub emptySlots : List ℕ → List ℕ → ℕ → Bool
-emptySlots points values n = zeros (drop n points) && zeros (drop n values)
-
 unfoldable pub keptAt : Pair → List ℕ → List ℕ → ℕ → Bool
 keptAt P points values i = eqb (pointNumber P (take i points) (getD points i 0)) 0 && eqb (getD values i 0) (kept P (getD points i 0))
 
 unfoldable pub keptPairs : Pair → List ℕ → List ℕ → ℕ → Bool
 keptPairs P points values n = good P [] (take n points) && same (take n values) (map (kept P) (take n points))
+
+unfoldable pub soundKept : Pair → List ℕ → List ℕ → ℕ → Bool
+soundKept P points values n = leb n (needed P) && zeros (drop n points) && zeros (drop n values) && keptPairs P points values n

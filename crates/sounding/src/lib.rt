@@ -5,12 +5,11 @@ ghost use mathlib.Core.Path.{_≡_};
 ghost use mathlib.Core.Bool.{true};
 ghost use Prim.Native.Nat.{_+_, _*_, _<_, _≤_};
 ghost use lib.ListN.{length, drop};
-ghost use Rattle.residue.specs.Prime.{Prime};
 ghost use Rattle.scope.specs.Pair.{tables};
 ghost use Rattle.scope.specs.Point.{enough};
-ghost use Rattle.points.specs.Table.{Table};
 ghost use Rattle.job.specs.Sound.{zeros, soundPair, soundPoints, sound?};
-ghost use Rattle.sounding.specs.Parts.{soundNumbers, soundTable, soundTables, Degrees, emptySlots, keptAt, keptPairs};
+ghost use Rattle.sounding.specs.Parts.{soundNumbers, soundTable, soundTables, keptAt, keptPairs, soundKept};
+ghost use Rattle.sounding.specs.Opened.{Numbers, Opened};
 
 // Whether every entry from k on is 0
 pub fn zeros_from(t: &[u32], k: usize) -> bool
@@ -60,9 +59,7 @@ fn points_needed(m: usize, da: usize, n: usize, db: usize) -> usize
 
 // Whether as many usable points exist as are needed
 fn enough_points(p: u32, ta: &[u32], m: usize, da: usize, tb: &[u32], n: usize, db: usize) -> bool
-    requires { ⌜ 0 < p ⌝ }
-    requires { ⌜ Degrees m da (now ta) ⌝ }
-    requires { ⌜ Degrees n db (now tb) ⌝ }
+    requires { ⌜ Opened p m da n db (now ta) (now tb) ⌝ }
     ensures { λ r. ⌜ r ≡ enough (tables p m 16 n 16 (now (ta .entry)) (now (tb .entry))) ⌝ }
 {
     let wanted = points_needed(m, da, n, db);
@@ -87,11 +84,9 @@ fn sound_numbers(p: u32, m: u32, n: u32) -> bool
 
 // Whether both tables are such tables, and as many usable points exist as they need
 fn sound_tables<'a>(p: u32, ta: &'a [u32], m: u32, da: u32, tb: &'a [u32], n: u32, db: u32) -> bool
-    requires { ⌜ 0 < p ⌝ }
+    requires { ⌜ Numbers p m n ⌝ }
     requires { ⌜ length (now ta) ≡ 289 ⌝ }
-    requires { ⌜ m ≤ 16 ⌝ }
     requires { ⌜ length (now tb) ≡ 289 ⌝ }
-    requires { ⌜ n ≤ 16 ⌝ }
     ensures { λ r. ⌜ r ≡ soundTables p m da n db (now (ta .entry)) (now (tb .entry)) ⌝ }
 {
     if !sound_table(p, ta, m, da) {
@@ -126,10 +121,7 @@ fn kept_pair(
     values: &[u32],
     i: usize,
 ) -> bool
-    requires { ⌜ 2 ≤ p ⌝ }
-    requires { ⌜ Prime p ⌝ }
-    requires { ⌜ Table m da (now ta) ⌝ }
-    requires { ⌜ Table n db (now tb) ⌝ }
+    requires { ⌜ Opened p m da n db (now ta) (now tb) ⌝ }
     requires { ⌜ i < length (now points) ⌝ }
     requires { ⌜ i < length (now values) ⌝ }
     ensures { λ r. ⌜ r ≡ keptAt (tables p m 16 n 16 (now (ta .entry)) (now (tb .entry))) (now (points .entry)) (now (values .entry)) i ⌝ }
@@ -148,22 +140,19 @@ fn kept_pair(
 }
 
 // Whether each of the first count pairs would have been kept
-fn kept_pairs<'a>(
+fn kept_pairs(
     p: u32,
-    ta: &'a [u32],
+    ta: &[u32],
     m: usize,
     da: usize,
-    tb: &'a [u32],
+    tb: &[u32],
     n: usize,
     db: usize,
-    points: &'a [u32],
-    values: &'a [u32],
+    points: &[u32],
+    values: &[u32],
     count: usize,
 ) -> bool
-    requires { ⌜ 2 ≤ p ⌝ }
-    requires { ⌜ Prime p ⌝ }
-    requires { ⌜ Table m da (now ta) ⌝ }
-    requires { ⌜ Table n db (now tb) ⌝ }
+    requires { ⌜ Opened p m da n db (now ta) (now tb) ⌝ }
     requires { ⌜ count ≤ length (now points) ⌝ }
     requires { ⌜ count ≤ length (now values) ⌝ }
     ensures { λ r. ⌜ r ≡ keptPairs (tables p m 16 n 16 (now (ta .entry)) (now (tb .entry))) (now (points .entry)) (now (values .entry)) count ⌝ }
@@ -178,34 +167,53 @@ fn kept_pairs<'a>(
     true
 }
 
-// Whether the slots from count on are empty
-fn empty_slots<'a>(points: &'a [u32], values: &'a [u32], count: usize) -> bool
-    ensures { λ r. ⌜ r ≡ emptySlots (now (points .entry)) (now (values .entry)) count ⌝ }
+// Whether the kept pairs are no more than are needed, each would have been kept, and the other slots are empty
+fn sound_kept<'a>(
+    p: u32,
+    ta: &'a [u32],
+    m: usize,
+    da: usize,
+    tb: &'a [u32],
+    n: usize,
+    db: usize,
+    points: &'a [u32],
+    values: &'a [u32],
+    count: usize,
+) -> bool
+    requires { ⌜ Opened p m da n db (now ta) (now tb) ⌝ }
+    requires { ⌜ length (now points) ≡ 513 ⌝ }
+    requires { ⌜ length (now values) ≡ 513 ⌝ }
+    ensures { λ r. ⌜ r ≡ soundKept (tables p m 16 n 16 (now (ta .entry)) (now (tb .entry))) (now (points .entry)) (now (values .entry)) count ⌝ }
 {
+    if points_needed(m, da, n, db) < count {
+        return false;
+    }
     if !zeros_from(points, count) {
         return false;
     }
-    zeros_from(values, count)
+    if !zeros_from(values, count) {
+        return false;
+    }
+    kept_pairs(p, ta, m, da, tb, n, db, points, values, count)
 }
 
-// Whether the kept pairs of a record whose pair is sound are points that were kept with their values, no more of them
-// than are needed, and the other slots empty
+// The same of the kept pairs of a record whose pair is sound
 pub fn sound_points(j: Job) -> bool
     requires { ⌜ soundPair j ≡ true ⌝ }
     ensures { λ r. ⌜ r ≡ soundPoints j ⌝ }
 {
-    let m = j.m as usize;
-    let n = j.n as usize;
-    let da = j.da as usize;
-    let db = j.db as usize;
-    let count = j.count as usize;
-    if points_needed(m, da, n, db) < count {
-        return false;
-    }
-    if !empty_slots(&j.points, &j.values, count) {
-        return false;
-    }
-    kept_pairs(j.p, &j.a, m, da, &j.b, n, db, &j.points, &j.values, count)
+    sound_kept(
+        j.p,
+        &j.a,
+        j.m as usize,
+        j.da as usize,
+        &j.b,
+        j.n as usize,
+        j.db as usize,
+        &j.points,
+        &j.values,
+        j.count as usize,
+    )
 }
 
 // Whether a record is sound; any record may be asked

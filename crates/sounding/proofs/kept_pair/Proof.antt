@@ -1,9 +1,10 @@
 -- `sounding::kept_pair`: the point first, in the order of an offer; its value only where it is good.
 use native.Mathlib.Omega.{arith}
 use mathlib.Core.Bool.{false≢true}
-use mathlib.Core.Path.{sym, ap, _∙_}
+use mathlib.Core.Path.{sym, _∙_}
 use borrow.Author.Tests.{not-true, not-false}
 use Rattle.scope.specs.Pair.{tables}
+use Rattle.sounding.proofs.Opened.{usable-asks, kept-asks}
 use Rattle.sounding.proofs.Pairs.{at-bad, at-value}
 use borrow.Author.Needs.{needs}
 use Rattle.sounding.proofs.kept_pair.Statement.{statement}
@@ -26,7 +27,7 @@ returns-2 : tie.Need-returns-2
 returns-2 c = at-bad _ _ _ _ (λ h. false≢true (sym (h .1) ∙ sym (c .before .is-among .ensures) ∙ c .if2 .taken))
 
 usable-at-requires : tie.Need-usable-at-requires
-usable-at-requires c κs = search needs
+usable-at-requires c κs = usable-asks (c .before .before .before .before .before .before .before .before .pre .0)
 
 returns-3 : tie.Need-returns-3
 returns-3 c = at-bad _ _ _ _ (λ h. false≢true (sym (not-true _ (c .if3 .taken)) ∙ c .before .usable-at .ensures ∙ h .2))
@@ -38,13 +39,8 @@ shared-slice-read-result : tie.Need-shared-slice-read-result
 shared-slice-read-result c = search needs
 
 kept-at-requires : tie.Need-kept-at-requires
-kept-at-requires c κs = (
-  search needs,
-  (
-    search needs,
-    (search needs, (search needs, sym (c .before .before .usable-at .ensures) ∙ not-false _ (c .before .if3 .left))),
-  ),
-)
+kept-at-requires c κs =
+    kept-asks (c .before .before .before .before .before .before .before .before .before .before .before .pre .0) _ (sym (c .before .before .usable-at .ensures) ∙ not-false _ (c .before .if3 .left))
 
 returns-4 : tie.Need-returns-4
 unfolding tables

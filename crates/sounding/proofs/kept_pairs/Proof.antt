@@ -2,7 +2,6 @@
 use Prim.Native.Nat.{_-_}
 use native.Mathlib.Omega.{arith}
 use mathlib.Core.Path.{sym, _∙_}
-use borrow.Author.Needs.{needs}
 use borrow.Author.Tests.{not-true, not-false}
 use Rattle.scope.specs.Pair.{tables}
 use Rattle.sounding.proofs.Pairs.{Passed, passed-none, passed-more, passed-bad, passed-all}
@@ -19,7 +18,7 @@ loop-holds : tie.Need-loop-holds Inv-loop μ-loop
 loop-holds c = passed-none _ _ _ _ (omega arith) (omega arith)
 
 kept-pair-requires : tie.Need-kept-pair-requires Inv-loop μ-loop
-kept-pair-requires c κs = (search needs, (search needs, (search needs, (search needs, (omega arith, omega arith)))))
+kept-pair-requires c κs = (c .before .before .before .before .before .before .pre .0, (omega arith, omega arith))
 
 returns : tie.Need-returns Inv-loop μ-loop
 returns c = passed-bad _ _ _ _ (c .before .before .before .loop .inv) (omega arith) (sym (c .before .kept-pair .ensures) ∙ not-true _ (c .if1 .taken))

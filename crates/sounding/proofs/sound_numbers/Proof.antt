@@ -1,7 +1,7 @@
 -- `sounding::sound_numbers`: each test in turn.
 use mathlib.Core.Bool.{not}
 use mathlib.Core.Path.{sym, ap, _∙_}
-use Rattle.sounding.proofs.Record.{numbers-fail, numbers-decided}
+use Rattle.sounding.proofs.Numbers.{numbers-fail, numbers-decided}
 use borrow.Author.Needs.{needs}
 use Rattle.sounding.proofs.sound_numbers.Statement.{statement}
 use Rattle.sounding.proofs.sound_numbers.Tie as tie

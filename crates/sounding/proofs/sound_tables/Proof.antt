@@ -2,7 +2,7 @@
 use native.Mathlib.Omega.{arith}
 use mathlib.Core.Path.{sym, _∙_}
 use borrow.Author.Tests.{not-true, not-false}
-use Rattle.sounding.proofs.Tables.{table-degrees, tables-fail, tables-decided}
+use Rattle.sounding.proofs.Opened.{table-degrees, tables-fail, tables-decided}
 use borrow.Author.Needs.{needs}
 use Rattle.sounding.proofs.sound_tables.Statement.{statement}
 use Rattle.sounding.proofs.sound_tables.Tie as tie
@@ -20,14 +20,13 @@ returns-2 : tie.Need-returns-2
 returns-2 c = tables-fail _ _ _ _ _ _ _ 1 (sym (c .before .sound-table2 .ensures) ∙ not-true _ (c .if2 .taken))
 
 enough-points-requires : tie.Need-enough-points-requires
-enough-points-requires c κs = (
-  omega arith,
-  (
-    table-degrees _ _ _ _ (omega arith) (omega arith)
-        (sym (c .before .before .before .sound-table .ensures) ∙ not-false _ (c .before .before .if1 .left)),
-    table-degrees _ _ _ _ (omega arith) (omega arith) (sym (c .before .sound-table2 .ensures) ∙ not-false _ (c .if2 .left)),
-  ),
-)
+enough-points-requires c κs = record {
+  modulus = c .before .before .before .before .before .before .pre .0 .modulus;
+  degrees-a =
+      table-degrees _ _ _ _ (omega arith) (omega arith)
+      (sym (c .before .before .before .sound-table .ensures) ∙ not-false _ (c .before .before .if1 .left));
+  degrees-b = table-degrees _ _ _ _ (omega arith) (omega arith) (sym (c .before .sound-table2 .ensures) ∙ not-false _ (c .if2 .left));
+}
 
 returns-3 : tie.Need-returns-3
 returns-3 c =
