@@ -2,6 +2,7 @@
 -- fixed as a list here; that it is the caller's own stretch is the contract's second clause.
 --
 --   row-unique .. shot-unique     for each public call
+--   plain-agrees                  the plain determinant and the row resultant, where both accept
 use Prim.Native.Nat.{ℕ}
 use mathlib.Core.List.{List}
 use mathlib.Core.Path.{_≡_, sym, _∙_}
@@ -11,6 +12,10 @@ use Rattle.job.specs.declared.ReadAnswer.{ReadAnswer}
 use Rattle.kernel.specs.declared.RowAnswer.{RowAnswer}
 use Rattle.kernel.specs.declared.PlainAnswer.{PlainAnswer}
 use Rattle.kernel.specs.declared.DivisionAnswer.{DivisionAnswer}
+use Rattle.scope.specs.Number.{rowNumber, plainNumber}
+use Rattle.scope.specs.Answers.{rowValue, plainValue}
+use Rattle.checks.specs.Refusal.{then-none}
+use Rattle.kernel.specs.RowLaws.{done}
 use Rattle.kernel.specs.Results.{RowResult, PlainResult, DivisionResult, DivisorResult, OpenResult, OfferResult, LotResult, ReadResult, ShotResult}
 
 -- both equal the definition
@@ -57,3 +62,11 @@ pub shot-unique : (p m e n f : ℕ) (s t out : List ℕ) (r r′ : ReadAnswer) (
     → ShotResult p m e n f s t out r left → ShotResult p m e n f s t out r′ left′ → (r ≡ r′) × (left ≡ left′)
 shot-unique p m e n f s t out r r′ left left′ h h′ =
     (read-path r r′ (both (h .number) (h′ .number)) (both (h .wanted) (h′ .wanted)) (both (h .degree) (h′ .degree)) (both (h .zero) (h′ .zero)), both (h .left) (h′ .left))
+
+-- on every input that both accept, the plain determinant and the row resultant agree
+pub plain-agrees : (p : ℕ) (a b : List ℕ) (r : RowAnswer) (s : PlainAnswer) → RowResult p a b r → PlainResult p a b s → s .number ≡ 0
+    → (r .number ≡ 0) × (r .value ≡ s .value)
+unfolding rowValue plainValue plainNumber
+plain-agrees p a b r s h g z =
+    let q : rowNumber p a b ≡ 0 = then-none (rowNumber p a b) _ (sym (g .number) ∙ z) .0 in
+    (h .number ∙ q, h .value ∙ done (rowNumber p a b) _ q ∙ sym (done (plainNumber p a b) _ (sym (g .number) ∙ z)) ∙ sym (g .value))
