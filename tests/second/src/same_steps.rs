@@ -92,6 +92,48 @@ fn euclid(p: u32, before: &mut [u32], r: &mut [u32]) -> (u32, u32) {
     )
 }
 
+fn is_prime(p: u32) -> bool {
+    if p >= 4 && p % 2 == 0 {
+        return false;
+    }
+    let mut d = 3u32;
+    while d as u64 * d as u64 <= p as u64 {
+        if p % d == 0 {
+            return false;
+        }
+        d += 2;
+    }
+    true
+}
+
+/// The whole public call: the tests of the input in the order of their numbers, then the work on copies of the rows.
+pub fn row_call(p: u32, a: &[u32], b: &[u32]) -> (u32, u32, u32) {
+    let both = [a, b];
+    let number = if !(2..1 << 31).contains(&p) {
+        2
+    } else if !is_prime(p) {
+        3
+    } else if both.iter().any(|r| r.len() > 17) {
+        4
+    } else if both.iter().any(|r| r.is_empty()) {
+        5
+    } else if both.iter().any(|r| r.iter().any(|&x| x >= p)) {
+        6
+    } else if both.iter().any(|r| r[r.len() - 1] == 0) {
+        7
+    } else {
+        0
+    };
+    if number != 0 {
+        return (number, 0, 0);
+    }
+    let (mut u, mut w) = ([0u32; 17], [0u32; 17]);
+    u[..a.len()].copy_from_slice(a);
+    w[..b.len()].copy_from_slice(b);
+    let (value, steps) = row_resultant(p, &mut u[..a.len()], &mut w[..b.len()]);
+    (0, value, steps)
+}
+
 /// Value and steps; destroys the rows.
 pub fn row_resultant(p: u32, a: &mut [u32], b: &mut [u32]) -> (u32, u32) {
     if b.len() <= a.len() {

@@ -5,6 +5,9 @@ use second::kernel::{self, Job};
 use second::random::Random;
 use second::same_steps;
 use std::hint::black_box;
+use std::io::Write;
+use std::path::Path;
+use std::process::{Command, Stdio};
 use std::time::{Duration, Instant};
 
 const P: u32 = 2_147_483_647;
@@ -34,62 +37,40 @@ fn ratio(name: &str, kernel: Duration, rust: Duration, times: u32) {
     );
 }
 
-fn rows() {
+/// Rows of one length; a prime for which the test of the modulus is short shows the work itself.
+fn rows(p: u32, what: &str) {
     let mut random = Random::new(1);
     let mut row = || -> Vec<u32> {
         (0..17)
-            .map(|_| 1 + random.below(P as u64 - 1) as u32)
+            .map(|_| 1 + random.below(p as u64 - 1) as u32)
             .collect()
     };
     let pairs: Vec<(Vec<u32>, Vec<u32>)> = (0..200).map(|_| (row(), row())).collect();
     for (a, b) in &pairs {
-        let k = kernel::row_resultant(P, a, b);
-        assert_eq!(
-            (k.value, k.steps),
-            same_steps::row_resultant(P, &mut a.clone(), &mut b.clone())
-        );
+        let k = kernel::row_resultant(p, a, b);
+        assert_eq!((k.number, k.value, k.steps), same_steps::row_call(p, a, b));
     }
-    // The public call tests the modulus on each call; a row with an entry that is too large stops after that test and the
-    // look at the entries, so its time is what the tests cost.
-    let bad: Vec<u32> = (0..17).map(|k| if k == 16 { P } else { 1 }).collect();
-    let tests = best(20, || {
-        for (a, _) in &pairs {
-            black_box(kernel::row_resultant(P, black_box(a), black_box(&bad)));
+    let kernel = best(40, || {
+        for (a, b) in &pairs {
+            black_box(kernel::row_resultant(p, black_box(a), black_box(b)));
         }
     });
-    let whole = best(20, || {
+    let rust = best(40, || {
         for (a, b) in &pairs {
-            black_box(kernel::row_resultant(P, black_box(a), black_box(b)));
-        }
-    });
-    let rust = best(20, || {
-        for (a, b) in &pairs {
-            let (mut u, mut w) = ([0u32; 17], [0u32; 17]);
-            u.copy_from_slice(black_box(a));
-            w.copy_from_slice(black_box(b));
-            black_box(same_steps::row_resultant(P, &mut u, &mut w));
+            black_box(same_steps::row_call(p, black_box(a), black_box(b)));
         }
     });
     let times = pairs.len() as u32;
-    println!(
-        "row resultant 16 by 16, whole call: {:.2} us",
-        whole.as_secs_f64() * 1e6 / times as f64
-    );
-    println!(
-        "of it tests of the input: {:.2} us",
-        tests.as_secs_f64() * 1e6 / times as f64
-    );
     ratio(
-        "row resultant 16 by 16, without the tests",
-        whole.saturating_sub(tests),
+        &format!("row resultant 16 by 16 modulo {p}, {what}"),
+        kernel,
         rust,
         times,
     );
-    let whole_rate = times as f64 / whole.as_secs_f64();
-    println!("row resultants per second: {whole_rate:.0} by the public call");
+    println!("  {:.0} a second", times as f64 / kernel.as_secs_f64());
 }
 
-fn job() {
+fn job() -> Duration {
     let mut random = Random::new(2);
     let mut table = || Table {
         m: 16,
@@ -142,9 +123,39 @@ fn job() {
         offer.as_secs_f64() / one.as_secs_f64()
     );
     println!("bytes of the job record: {}", std::mem::size_of::<Job>());
+    shot
+}
+
+/// The stored deck of the largest shape, with its 514 points and two reads, through the program.
+fn deck(shot: Duration) {
+    let root = Path::new(env!("CARGO_MANIFEST_DIR")).join("../..");
+    let bytes = std::fs::read(root.join("tests/decks/largest.deck")).expect("the stored deck");
+    let program = root.join("target/bin/deck");
+    let whole = best(5, || {
+        let mut child = Command::new(&program)
+            .stdin(Stdio::piped())
+            .stdout(Stdio::piped())
+            .spawn()
+            .expect("deck runs");
+        let mut input = child.stdin.take().expect("piped");
+        let writer = std::thread::spawn({
+            let bytes = bytes.clone();
+            move || input.write_all(&bytes)
+        });
+        let output = child.wait_with_output().expect("deck ends");
+        writer.join().expect("written").expect("taken");
+        assert!(output.stdout.ends_with(b"end\n"));
+    });
+    println!(
+        "deck of 513 points at the largest shape: {:.0} us, {:.2} times the one-shot",
+        whole.as_secs_f64() * 1e6,
+        whole.as_secs_f64() / shot.as_secs_f64()
+    );
 }
 
 fn main() {
-    rows();
-    job();
+    rows(P, "with the tests of the input");
+    rows(10_007, "where the test of the modulus is short");
+    let shot = job();
+    deck(shot);
 }
