@@ -20,7 +20,7 @@ use lib.Dec.{leb, eqb}
 use lib.ListN.{length, getD}
 use borrow.Author.Tests.{eqb-true, not-false}
 use Rattle.residue.specs.Prime.{Prime}
-use Rattle.scope.specs.Pair.{term, some, occurs, largest, tables, degreeA, degreeB, bound}
+use Rattle.scope.specs.Pair.{term, occurs, largest, tables, degreeA, degreeB, bound}
 use Rattle.scope.specs.Point.{usable, needed, usables, enough}
 use Rattle.scope.specs.Search.{some-false, largest-bound, largest-most}
 use Rattle.points.specs.Table.{Table}
