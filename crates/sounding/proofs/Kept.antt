@@ -4,7 +4,6 @@
 --   kept-fails                 one of them fails
 --   kept-decided               all but the last hold: it decides
 --   count-many, count-few      the number of kept points against the number needed
---   count-fits                 as many as are needed fit into the record
 use Prim.Native.Nat.{ℕ, _+_, _*_, _≤_, _<_}
 use native.Mathlib.Omega.{arith}
 use mathlib.Core.Bool.{Bool, true, false}
@@ -20,7 +19,7 @@ use Rattle.job.specs.SoundTests.{done, _also_}
 use Rattle.sounding.specs.Parts.{keptPairs, soundKept}
 use Rattle.sounding.specs.Opened.{Opened}
 use Rattle.sounding.proofs.Tests.{failed, decided}
-use Rattle.sounding.proofs.Opened.{needed-is, needed-low}
+use Rattle.sounding.proofs.Opened.{needed-is}
 
 module _ (P : Pair) (points values : List ℕ) (n : ℕ) where
   abbrev pub keptTests : List Bool
@@ -35,12 +34,9 @@ module _ (P : Pair) (points values : List ℕ) (n : ℕ) where
   unfolding soundKept
   kept-decided few x v e = e ∙ sym (decided (few also x also v also done) (keptPairs P points values n))
 
-module _ {p m da n db : ℕ} {s t : List ℕ} (o : Opened p m da n db s t) {w count : ℕ} (e : w ≡ n * da + m * db + 1) where
-  pub count-many : w < count → leb count (needed (tables p m 16 n 16 s t)) ≡ false
+module _ {p m da n db : ℕ} {s t : List ℕ} (o : Opened p m da n db s t) {count : ℕ} where
+  pub count-many : n * da + m * db + 1 < count → leb count (needed (tables p m 16 n 16 s t)) ≡ false
   count-many h = lt-leb count (needed (tables p m 16 n 16 s t)) (omega (arith, needed-is o))
 
-  pub count-few : count ≤ w → leb count (needed (tables p m 16 n 16 s t)) ≡ true
+  pub count-few : count ≤ n * da + m * db + 1 → leb count (needed (tables p m 16 n 16 s t)) ≡ true
   count-few h = le-leb count (needed (tables p m 16 n 16 s t)) (omega (arith, needed-is o))
-
-  pub count-fits : count ≤ w → count ≤ 513
-  count-fits h = omega (arith, needed-is o, needed-low o)

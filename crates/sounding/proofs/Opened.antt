@@ -4,7 +4,7 @@
 --   table-a, table-b  no row of the two tables has a higher power of y
 --   needed-asks       what counting the needed points requires; usable-asks: what testing a point does; kept-asks: what its value does
 --   needed-is         how many points they need
---   needed-low        at most 513
+--   needed-low        the two products in D
 --   enough-is         whether so many usable points exist
 --   tablesTests       the tests of both tables, one to a place
 --   tables-fail       one of them fails
@@ -20,7 +20,7 @@ use lib.Dec.{leb, eqb}
 use lib.ListN.{length, getD}
 use borrow.Author.Tests.{eqb-true, not-false}
 use Rattle.residue.specs.Prime.{Prime}
-use Rattle.scope.specs.Pair.{term, some, occurs, largest, tables, degreeA, degreeB, bound}
+use Rattle.scope.specs.Pair.{term, occurs, largest, tables, degreeA, degreeB, bound}
 use Rattle.scope.specs.Point.{usable, needed, usables, enough}
 use Rattle.scope.specs.Search.{some-false, largest-bound, largest-most}
 use Rattle.points.specs.Table.{Table}
@@ -74,14 +74,11 @@ module _ {p m da n db : ℕ} {s t : List ℕ} (o : Opened p m da n db s t) where
   unfolding needed bound degreeA degreeB tables
   needed-is = rw (← o .degrees-a .largest, ← o .degrees-b .largest) refl
 
-  pub needed-low : needed (tables p m 16 n 16 s t) ≤ 513
-  needed-low =
-      omega (
-        arith,
-        needed-is,
-        mul-le-mul {n₁ = n} {m₁ = da} {n₂ = 16} {m₂ = 16} (o .degrees-b .rows) (table-a .powers),
-        mul-le-mul {n₁ = m} {m₁ = db} {n₂ = 16} {m₂ = 16} (o .degrees-a .rows) (table-b .powers),
-      )
+  pub needed-low : (n * da ≤ 256) × (m * db ≤ 256)
+  needed-low = (
+    mul-le-mul {n₁ = n} {m₁ = da} {n₂ = 16} {m₂ = 16} (o .degrees-b .rows) (table-a .powers),
+    mul-le-mul {n₁ = m} {m₁ = db} {n₂ = 16} {m₂ = 16} (o .degrees-a .rows) (table-b .powers),
+  )
 
   pub enough-is : {w : ℕ} → w ≡ n * da + m * db + 1 → {r : Bool} → r ≡ leb w (length (usables (tables p m 16 n 16 s t) p))
       → r ≡ enough (tables p m 16 n 16 s t)

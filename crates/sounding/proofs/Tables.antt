@@ -5,7 +5,7 @@
 --   table-decided     all but the last hold: it decides
 --   front-length      the rows up to m have (m + 1) * 17 entries
 --   front-lead        they have the table's leading row
-use Prim.Native.Nat.{ℕ, _+_, _*_, _≤_, _<_}
+use Prim.Native.Nat.{ℕ, _+_, _*_, _≤_}
 use native.Mathlib.Omega.{arith}
 use native.Mathlib.Decide.{decLe}
 use mathlib.Core.Bool.{Bool, true, false, not}

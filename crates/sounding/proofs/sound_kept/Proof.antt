@@ -2,17 +2,19 @@
 use native.Mathlib.Omega.{arith}
 use mathlib.Core.Path.{sym, _∙_}
 use borrow.Author.Tests.{not-true, not-false}
-use Rattle.sounding.proofs.Opened.{needed-asks}
-use Rattle.sounding.proofs.Kept.{kept-fails, kept-decided, count-many, count-few, count-fits}
+use Rattle.sounding.proofs.Opened.{needed-asks, needed-low}
+use Rattle.sounding.proofs.Kept.{kept-fails, kept-decided, count-many, count-few}
 use borrow.Author.Needs.{needs}
 use Rattle.sounding.proofs.sound_kept.Statement.{statement}
 use Rattle.sounding.proofs.sound_kept.Tie as tie
 
 points-needed-requires : tie.Need-points-needed-requires
-points-needed-requires c κs = needed-asks (c .before .before .before .before .pre .0)
+points-needed-requires c κs = let low = needed-asks (c .before .before .before .before .pre .0) in omega arith
 
 returns : tie.Need-returns
-returns c = kept-fails _ _ _ _ 0 (count-many (c .before .before .before .before .before .before .pre .0) (c .before .points-needed .ensures) (c .if1 .taken))
+returns c =
+    let o = c .before .before .before .before .before .before .pre .0 in
+    kept-fails _ _ _ _ 0 (count-many o (omega (arith, needed-low o, c .before .points-needed .ensures)))
 
 zeros-from-requires : tie.Need-zeros-from-requires
 zeros-from-requires c κs = search needs
@@ -28,13 +30,15 @@ returns-3 c = kept-fails _ _ _ _ 2 (sym (c .before .zeros-from2 .ensures) ∙ no
 
 kept-pairs-requires : tie.Need-kept-pairs-requires
 kept-pairs-requires c κs =
-    let few = count-fits (c .before .before .before .before .before .before .before .before .before .before .pre .0) (c .before .before .before .before .before .points-needed .ensures) (c .before .before .before .before .if1 .left) in
-    (c .before .before .before .before .before .before .before .before .before .before .pre .0, (omega arith, omega arith))
+    let o = c .before .before .before .before .before .before .before .before .before .before .pre .0 in
+    let low = needed-low o in
+    let wanted = c .before .before .before .before .before .points-needed .ensures in
+    (o, (omega arith, omega arith))
 
 returns-4 : tie.Need-returns-4
 returns-4 c =
     kept-decided _ _ _ _
-    (count-few (c .before .before .before .before .before .before .before .before .before .before .before .pre .0) (c .before .before .before .before .before .before .points-needed .ensures) (c .before .before .before .before .before .if1 .left))
+    (count-few (c .before .before .before .before .before .before .before .before .before .before .before .pre .0) (omega (arith, c .before .before .before .before .before .before .points-needed .ensures)))
     (sym (c .before .before .before .before .zeros-from .ensures) ∙ not-false _ (c .before .before .before .if2 .left))
     (sym (c .before .before .zeros-from2 .ensures) ∙ not-false _ (c .before .if3 .left))
     (c .kept-pairs .ensures)
