@@ -2,9 +2,10 @@
 pub mod Text
 pub mod Deck
 pub mod Figure
--- what the functions that write text promise
+-- what the functions promise
 pub mod Buffer
 pub mod Line
+pub mod Step
 -- laws
 pub mod BufferLaws
 pub mod TextLaws
@@ -13,3 +14,4 @@ pub mod Refusal
 pub mod State
 pub mod AnswerLaws
 pub mod DeckLaws
+pub mod StepLaws

@@ -3,6 +3,7 @@ use job::Job;
 
 pub mod lines;
 pub mod records;
+pub mod steps;
 pub mod text;
 
 // stage: 0 before the modulus, 1 before the degrees, 2 before the opening, 3 with an open job.
@@ -17,4 +18,11 @@ pub struct Deck {
     pub a: [u32; 289],
     pub b: [u32; 289],
     pub job: Job,
+}
+
+// What a step leaves: the state, how long the line at the start of the buffer is, and whether the run stops.
+pub struct Step {
+    pub state: Deck,
+    pub length: usize,
+    pub halt: bool,
 }
