@@ -4,7 +4,7 @@ fn mul(p: u32, a: u32, b: u32) -> u32 {
     (a as u64 * b as u64 % p as u64) as u32
 }
 
-fn mul_sub(p: u32, c: u32, q: u32, b: u32) -> u32 {
+pub fn mul_sub(p: u32, c: u32, q: u32, b: u32) -> u32 {
     (((p - b) as u64 * q as u64 + c as u64) % p as u64) as u32
 }
 
@@ -92,7 +92,7 @@ fn euclid(p: u32, before: &mut [u32], r: &mut [u32]) -> (u32, u32) {
     )
 }
 
-fn is_prime(p: u32) -> bool {
+pub fn is_prime(p: u32) -> bool {
     if p >= 4 && p % 2 == 0 {
         return false;
     }

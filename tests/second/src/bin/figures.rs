@@ -70,6 +70,36 @@ fn rows(p: u32, what: &str) {
     println!("  {:.0} a second", times as f64 / kernel.as_secs_f64());
 }
 
+/// Where the time of one row resultant goes, by the Rust program's parts.
+fn parts() {
+    let mut random = Random::new(3);
+    let units: Vec<u32> = (0..16)
+        .map(|_| 1 + random.below(P as u64 - 1) as u32)
+        .collect();
+    let inverses = best(200, || {
+        for &u in &units {
+            black_box(same_steps::inverse(P, black_box(u)));
+        }
+    });
+    let steps = best(200, || {
+        let mut c = 1;
+        for k in 0..256u32 {
+            c = same_steps::mul_sub(
+                P,
+                black_box(c),
+                black_box(units[k as usize % 16]),
+                black_box(k),
+            );
+        }
+        black_box(c);
+    });
+    let prime = best(50, || {
+        black_box(same_steps::is_prime(black_box(P)));
+    });
+    let us = |d: Duration| d.as_secs_f64() * 1e6;
+    println!("  of it: test of the modulus {:.1} us, 16 inverses {:.1} us, 256 coefficient steps {:.1} us", us(prime), us(inverses), us(steps));
+}
+
 fn job() -> Duration {
     let mut random = Random::new(2);
     let mut table = || Table {
@@ -155,6 +185,7 @@ fn deck(shot: Duration) {
 
 fn main() {
     rows(P, "with the tests of the input");
+    parts();
     rows(10_007, "where the test of the modulus is short");
     let shot = job();
     deck(shot);
