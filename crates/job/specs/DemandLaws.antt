@@ -29,7 +29,7 @@ use Rattle.job.specs.Public.{offerJob, lotAnswer, lotJob, readAnswer, re
 use Rattle.job.specs.Demand.{Call, offer, lot, read, broken, after, run, pointsOf, allPoints, counts, counting, distinct, offeredCount}
 use Rattle.job.specs.Standing.{Standing}
 use Rattle.job.specs.SamePair.{SamePair, same-bound, same-needed, same-room, same-usable, same-coefficient}
-use Rattle.job.specs.TestLaws.{pointNumber-zero}
+use Rattle.scope.specs.TestLaws.{pointNumber-zero}
 use Rattle.job.specs.OpenLaws.{opened-same, opened-standing}
 use Rattle.job.specs.StandingLaws.{offer-kept, kept-offer, offered-kept, offered-else, stored-pair, stored-standing, offered-standing, lotted-standing, offered-pair, lotted-pair, lotted-append, needed-fits}
 use Rattle.job.specs.SoundLaws.{standing-test}

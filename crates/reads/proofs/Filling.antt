@@ -30,7 +30,7 @@ use Rattle.job.specs.Job.{pairOf, keptPoints}
 use Rattle.job.specs.Calls.{offered, lotted}
 use Rattle.job.specs.Demand.{counting, distinct}
 use Rattle.job.specs.Standing.{Standing}
-use Rattle.job.specs.TestLaws.{pointNumber-zero}
+use Rattle.scope.specs.TestLaws.{pointNumber-zero}
 use Rattle.job.specs.StandingLaws.{offer-kept, offered-else, lotted-standing, lotted-pair, lotted-append}
 use Rattle.job.specs.DemandLaws.{lotted-count}
 use Rattle.job.specs.OneShot.{usables-rising, counting-rising}

@@ -10,3 +10,4 @@ pub mod Evaluation
 pub mod Degree
 pub mod Recovery
 pub mod Usable
+pub mod TestLaws
