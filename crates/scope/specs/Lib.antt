@@ -6,6 +6,7 @@ pub mod Computing
 pub mod Figures
 pub mod Answers
 pub mod Search
+pub mod TableLaws
 pub mod Evaluation
 pub mod Degree
 pub mod Recovery
