@@ -8,11 +8,11 @@ use borrow.Author.Needs.{needs}
 use Rattle.sounding.proofs.sound_kept.Statement.{statement}
 use Rattle.sounding.proofs.sound_kept.Tie as tie
 
-points-needed-requires : tie.Need-points-needed-requires
-points-needed-requires c κs = needed-asks (c .before .before .before .before .pre .0)
+needed-requires : tie.Need-needed-requires
+needed-requires c κs = needed-asks (c .before .before .before .before .pre .0)
 
 returns : tie.Need-returns
-returns c = kept-fails _ _ _ _ 0 (count-many (c .before .before .before .before .before .before .pre .0) (c .before .points-needed .ensures) (c .if1 .taken))
+returns c = kept-fails _ _ _ _ 0 (count-many (c .before .before .before .before .before .before .pre .0) (c .before .needed .ensures) (c .if1 .taken))
 
 zeros-from-requires : tie.Need-zeros-from-requires
 zeros-from-requires c κs = search needs
@@ -28,13 +28,13 @@ returns-3 c = kept-fails _ _ _ _ 2 (sym (c .before .zeros-from2 .ensures) ∙ no
 
 kept-pairs-requires : tie.Need-kept-pairs-requires
 kept-pairs-requires c κs =
-    let few = count-fits (c .before .before .before .before .before .before .before .before .before .before .pre .0) (c .before .before .before .before .before .points-needed .ensures) (c .before .before .before .before .if1 .left) in
+    let few = count-fits (c .before .before .before .before .before .before .before .before .before .before .pre .0) (c .before .before .before .before .before .needed .ensures) (c .before .before .before .before .if1 .left) in
     (c .before .before .before .before .before .before .before .before .before .before .pre .0, (omega arith, omega arith))
 
 returns-4 : tie.Need-returns-4
 returns-4 c =
     kept-decided _ _ _ _
-    (count-few (c .before .before .before .before .before .before .before .before .before .before .before .pre .0) (c .before .before .before .before .before .before .points-needed .ensures) (c .before .before .before .before .before .if1 .left))
+    (count-few (c .before .before .before .before .before .before .before .before .before .before .before .pre .0) (c .before .before .before .before .before .before .needed .ensures) (c .before .before .before .before .before .if1 .left))
     (sym (c .before .before .before .before .zeros-from .ensures) ∙ not-false _ (c .before .before .before .if2 .left))
     (sym (c .before .before .zeros-from2 .ensures) ∙ not-false _ (c .before .if3 .left))
     (c .kept-pairs .ensures)
@@ -43,7 +43,7 @@ pub sound-kept-spec : {M : Type 1} → statement M
 sound-kept-spec =
     tie.close
     (tie.spec
-    points-needed-requires
+    needed-requires
     returns
     zeros-from-requires
     returns-2
