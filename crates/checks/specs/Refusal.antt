@@ -1,17 +1,16 @@
 -- Chains of refusals: how a number is read off `gives .. otherwise` and `then`.
 --
 --   gives-true, gives-false   a refusal that applies gives its number; one that does not is passed over
---   gives-none                a chain that ends in 0 passed its first refusal over, and its rest ends in 0
---   both-none                 the same where the first refusal has two tests
+--   both-none                 a chain that ends in 0 passed both tests of its first refusal over, and its rest ends in 0
 --   then-refused              a refusal is not changed by what is judged after it
 --   then-done                 where nothing was refused, what is judged after it decides
---   then-none                 a chain that ends in 0 refused nothing, neither before nor after
 use Prim.Native.Nat.{ℕ, zero, suc, _<_}
 use native.Mathlib.Omega.{arith}
 use mathlib.Core.Bool.{Bool, true, false, _||_}
 use mathlib.Core.Path.{_≡_, refl, ap}
 use Rattle.scope.specs.Search.{or-false}
 use Rattle.scope.specs.Number.{_gives_otherwise_, _then_}
+use Rattle.scope.specs.TestLaws.{gives-zero}
 
 pub gives-true : {t : Bool} (r s : ℕ) → t ≡ true → (t gives r otherwise s) ≡ r
 unfolding _gives_otherwise_
@@ -21,13 +20,8 @@ pub gives-false : {t : Bool} (r s : ℕ) → t ≡ false → (t gives r otherwis
 unfolding _gives_otherwise_
 gives-false r s e = ap (λ (b : Bool). b gives r otherwise s) e
 
-pub gives-none : (t : Bool) (r s : ℕ) → 0 < r → (t gives r otherwise s) ≡ 0 → (t ≡ false) × (s ≡ 0)
-unfolding _gives_otherwise_
-gives-none true r s h e = absurd (omega arith)
-gives-none false r s h e = (refl, e)
-
 pub both-none : (t u : Bool) (r s : ℕ) → 0 < r → ((t || u) gives r otherwise s) ≡ 0 → (t ≡ false) × (u ≡ false) × (s ≡ 0)
-both-none t u r s h e = let (none, rest) = gives-none (t || u) r s h e in (or-false t u none .0, or-false t u none .1, rest)
+both-none t u r s h e = let (none, rest) = gives-zero (t || u) r s h .0 e in (or-false t u none .0, or-false t u none .1, rest)
 
 pub then-refused : (r s : ℕ) → 0 < r → (r then s) ≡ r
 unfolding _then_
@@ -37,8 +31,3 @@ then-refused (suc r) s h = refl
 pub then-done : (r s : ℕ) → r ≡ 0 → (r then s) ≡ s
 unfolding _then_
 then-done r s e = ap (λ (k : ℕ). k then s) e
-
-pub then-none : (r s : ℕ) → (r then s) ≡ 0 → (r ≡ 0) × (s ≡ 0)
-unfolding _then_
-then-none zero s e = (refl, e)
-then-none (suc r) s e = absurd (omega arith)

@@ -21,7 +21,7 @@ use lib.ListN.{length}
 use borrow.Author.Tests.{ltb-false}
 use Rattle.scope.specs.Number.{_gives_otherwise_, tooHigh}
 use Rattle.scope.specs.Search.{or-false}
-use Rattle.job.specs.TestLaws.{gives-zero, tooHigh-false}
+use Rattle.scope.specs.TestLaws.{gives-zero, tooHigh-false}
 use Rattle.decks.specs.declared.Deck.{Deck}
 use Rattle.decks.specs.Deck.{known, bodyLength, byte, inOrder, astray, deckNumber}
 

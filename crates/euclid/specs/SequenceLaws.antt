@@ -73,7 +73,7 @@ module _ (p : ℕ) where
       l : C
       l = leads p (b ∷ c ∷ rs)
 
-  formula-two : (a b : List ℕ) → formula p (a ∷ b ∷ []) ≡ byLast p (degree b) (pow (residues p) (res p (lead b)) (degree a))
+  pub formula-two : (a b : List ℕ) → formula p (a ∷ b ∷ []) ≡ byLast p (degree b) (pow (residues p) (res p (lead b)) (degree a))
   unfolding formula final leads turns sign
   formula-two a b =
       ap (byLast p (degree b)) (one-⊗ (residues p) _ ∙ ⊗-one (pow (residues p) (res p (lead b)) (degree a)))

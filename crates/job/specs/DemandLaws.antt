@@ -2,7 +2,9 @@
 -- and before that says how many more are wanted.
 --
 --   run-lotted             a list of calls on a sound job is one lot of all the points that they offer
+--   idle-uncounted         a number that is no usable point changes nothing
 --   lotted-count           how many points are kept after a lot
+--   written-same, degreeOf-same, zeroFlag-same   a read hands out the same for pairs with the same coefficients
 --   demand-3               what a read answers after any list of calls on a fresh job
 use Prim.Native.Nat.{ℕ, zero, suc, _+_, _-_, _<_, _≤_, min}
 use native.Mathlib.Numerals.{add-one}
@@ -29,7 +31,7 @@ use Rattle.job.specs.Public.{offerJob, lotAnswer, lotJob, readAnswer, re
 use Rattle.job.specs.Demand.{Call, offer, lot, read, broken, after, run, pointsOf, allPoints, counts, counting, distinct, offeredCount}
 use Rattle.job.specs.Standing.{Standing}
 use Rattle.job.specs.SamePair.{SamePair, same-bound, same-needed, same-room, same-usable, same-coefficient}
-use Rattle.job.specs.TestLaws.{pointNumber-zero}
+use Rattle.scope.specs.TestLaws.{pointNumber-zero}
 use Rattle.job.specs.OpenLaws.{opened-same, opened-standing}
 use Rattle.job.specs.StandingLaws.{offer-kept, kept-offer, offered-kept, offered-else, stored-pair, stored-standing, offered-standing, lotted-standing, offered-pair, lotted-pair, lotted-append, needed-fits}
 use Rattle.job.specs.SoundLaws.{standing-test}
@@ -56,7 +58,7 @@ run-lotted (c ∷ cs) j s =
     ∙ sym (lotted-append j (pointsOf c) (allPoints cs))
 
 -- a point that does not count, or is kept already, or comes when the job is complete, changes nothing
-idle-uncounted : (j : Job) (a : ℕ) → counts (pairOf j) a ≡ false → offered j a ≡ j
+pub idle-uncounted : (j : Job) (a : ℕ) → counts (pairOf j) a ≡ false → offered j a ≡ j
 unfolding counts
 idle-uncounted j a h = offered-else j a (λ e. clash (pointNumber-zero (pairOf j) (keptPoints j) a .0 (offer-kept j a e .0)))
   where
@@ -164,7 +166,7 @@ counting-same P Q w (a ∷ xs) =
     ap₂ (λ (t : Bool) (l : List ℕ). cond t (a ∷ l) l)
     (ap₂ (λ (q : ℕ) (u : Bool). ltb a q && u) (w .p) (same-usable P Q w a)) (counting-same P Q w xs)
 
-written-same : (P Q : Pair) → SamePair P Q → written P ≡ written Q
+pub written-same : (P Q : Pair) → SamePair P Q → written P ≡ written Q
 unfolding written
 written-same P Q w = ap (λ (n : ℕ). tabulate n (coefficient P)) (same-room P Q w) ∙ ap (tabulate (room Q)) (fun-ext (same-coefficient P Q w))
 
@@ -172,11 +174,11 @@ nonzero-same : (P Q : Pair) → SamePair P Q → (k : ℕ) → nonzero P k ≡ n
 unfolding nonzero
 nonzero-same P Q w k = ap (λ (c : ℕ). not (eqb c 0)) (same-coefficient P Q w k)
 
-degreeOf-same : (P Q : Pair) → SamePair P Q → degreeOf P ≡ degreeOf Q
+pub degreeOf-same : (P Q : Pair) → SamePair P Q → degreeOf P ≡ degreeOf Q
 unfolding degreeOf
 degreeOf-same P Q w = ap₂ largest (same-bound P Q w) (fun-ext (nonzero-same P Q w))
 
-zeroFlag-same : (P Q : Pair) → SamePair P Q → zeroFlag P ≡ zeroFlag Q
+pub zeroFlag-same : (P Q : Pair) → SamePair P Q → zeroFlag P ≡ zeroFlag Q
 unfolding zeroFlag isZero
 zeroFlag-same P Q w =
     ap₂ (λ (d : ℕ) (o : ℕ → Bool). cond (not (some (d + 1) o)) 1 0) (same-bound P Q w) (fun-ext (nonzero-same P Q w))

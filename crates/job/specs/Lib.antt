@@ -6,8 +6,6 @@ pub mod Public
 pub mod Demand
 pub mod Standing
 pub mod SamePair
-pub mod TestLaws
-pub mod TableLaws
 pub mod OpenLaws
 pub mod StandingLaws
 pub mod SoundTests

@@ -28,8 +28,8 @@ use Rattle.job.specs.declared.Job.{Job}
 use Rattle.job.specs.Job.{pairOf, spread, opened}
 use Rattle.job.specs.Standing.{Standing}
 use Rattle.job.specs.SamePair.{SamePair, same-degreeA, same-degreeB, same-enough}
-use Rattle.job.specs.TestLaws.{gives-zero, both-false, modulus-tests, tooHigh-false, misfit-false, over-false}
-use Rattle.job.specs.TableLaws.{term-inside, term-high, term-below, term-out, noLead-same}
+use Rattle.scope.specs.TestLaws.{gives-zero, both-false, modulus-tests, tooHigh-false, misfit-false, over-false}
+use Rattle.scope.specs.TableLaws.{term-inside, term-high, term-below, term-out, noLead-same}
 
 pub record Accepted (p m e n f : ℕ) (s t : List ℕ) : Type 0 where
   pub modulus : Modulus p

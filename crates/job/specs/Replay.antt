@@ -27,8 +27,8 @@ use Rattle.job.specs.Job.{pairOf, spread, opened, keptPoints, stored}
 use Rattle.job.specs.Calls.{offerNumber, offered, lotted}
 use Rattle.job.specs.Standing.{Standing}
 use Rattle.job.specs.SamePair.{SamePair, same-degreeA, same-degreeB, same-enough}
-use Rattle.job.specs.TestLaws.{among-false, pointNumber-zero}
-use Rattle.job.specs.TableLaws.{term-inside, noLead-same}
+use Rattle.scope.specs.TestLaws.{among-false, pointNumber-zero}
+use Rattle.scope.specs.TableLaws.{term-inside, noLead-same}
 use Rattle.job.specs.OpenLaws.{accepting, spread-length, spread-getD, tables-same}
 use Rattle.job.specs.StandingLaws.{count-fits, kept-offer, offered-kept, lotted-append}
 

@@ -24,7 +24,7 @@ use Rattle.job.specs.declared.Job.{Job}
 use Rattle.job.specs.Job.{pairOf, opened, blank, keptPoints}
 use Rattle.job.specs.Sound.{Sound, zeros, same, good, soundPair, soundPoints, shaped, sound?}
 use Rattle.job.specs.Standing.{Standing}
-use Rattle.job.specs.TestLaws.{modulus-tests, tooHigh-false, over-false}
+use Rattle.scope.specs.TestLaws.{modulus-tests, tooHigh-false, over-false}
 use Rattle.job.specs.OpenLaws.{opened-standing}
 use Rattle.job.specs.StandingLaws.{needed-low, count-fits, kept-length, kept-getD, lotted-standing}
 use Rattle.job.specs.Replay.{front, front-accepted, replayed}

@@ -22,7 +22,7 @@ use Rattle.scope.specs.Point.{usable}
 use Rattle.scope.specs.Number.{among, pointNumber}
 use Rattle.scope.specs.Search.{or-false}
 use Rattle.job.specs.Sound.{zeros, same, good}
-use Rattle.job.specs.TestLaws.{both-false, pointNumber-zero}
+use Rattle.scope.specs.TestLaws.{both-false, pointNumber-zero}
 
 infixr 20 _also_
 pub both-true : (a b : Bool) → a ≡ true → b ≡ true → (a && b) ≡ true

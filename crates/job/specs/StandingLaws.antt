@@ -32,7 +32,7 @@ use Rattle.job.specs.declared.Job.{Job}
 use Rattle.job.specs.Job.{pairOf, keptPoints, stored}
 use Rattle.job.specs.Calls.{agrees, offerNumber, offered, lotAnswers, lotted}
 use Rattle.job.specs.Standing.{Standing}
-use Rattle.job.specs.TestLaws.{then-zero, among-false, pointNumber-zero}
+use Rattle.scope.specs.TestLaws.{then-zero, among-false, pointNumber-zero}
 
 pub needed-low : (j : Job) → j .m ≤ 16 → j .n ≤ 16 → needed (pairOf j) ≤ 513
 unfolding needed bound degreeA degreeB pairOf

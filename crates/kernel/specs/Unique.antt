@@ -14,7 +14,7 @@ use Rattle.kernel.specs.declared.PlainAnswer.{PlainAnswer}
 use Rattle.kernel.specs.declared.DivisionAnswer.{DivisionAnswer}
 use Rattle.scope.specs.Number.{rowNumber, plainNumber}
 use Rattle.scope.specs.Answers.{rowValue, plainValue}
-use Rattle.checks.specs.Refusal.{then-none}
+use Rattle.scope.specs.TestLaws.{then-zero}
 use Rattle.kernel.specs.RowLaws.{done}
 use Rattle.kernel.specs.Results.{RowResult, PlainResult, DivisionResult, DivisorResult, OpenResult, OfferResult, LotResult, ReadResult, ShotResult}
 
@@ -68,5 +68,5 @@ pub plain-agrees : (p : ℕ) (a b : List ℕ) (r : RowAnswer) (s : PlainAnswer) 
     → (r .number ≡ 0) × (r .value ≡ s .value)
 unfolding rowValue plainValue plainNumber
 plain-agrees p a b r s h g z =
-    let q : rowNumber p a b ≡ 0 = then-none (rowNumber p a b) _ (sym (g .number) ∙ z) .0 in
+    let q : rowNumber p a b ≡ 0 = then-zero (rowNumber p a b) _ .0 (sym (g .number) ∙ z) .0 in
     (h .number ∙ q, h .value ∙ done (rowNumber p a b) _ q ∙ sym (done (plainNumber p a b) _ (sym (g .number) ∙ z)) ∙ sym (g .value))

@@ -18,7 +18,7 @@ use Rattle.job.specs.declared.Job.{Job}
 use Rattle.job.specs.Job.{pairOf, keptPoints, stored}
 use Rattle.job.specs.Calls.{agrees, offerNumber, offered}
 use Rattle.job.specs.StandingLaws.{kept-offer, offered-kept, offered-else}
-use Rattle.job.specs.TestLaws.{pointNumber-zero}
+use Rattle.scope.specs.TestLaws.{pointNumber-zero}
 
 pub stored-value : (j : Job) (a : ℕ) {v : ℕ} → v ≡ kept (pairOf j) a
     → _≡_ {A = Job}

@@ -15,7 +15,7 @@ use Rattle.scope.specs.Point.{usable}
 use Rattle.scope.specs.Number.{_gives_otherwise_, among, pointNumber}
 use Rattle.job.specs.declared.Job.{Job}
 use Rattle.job.specs.Job.{pairOf, keptPoints}
-use Rattle.job.specs.TestLaws.{among-false}
+use Rattle.scope.specs.TestLaws.{among-false}
 
 module _ (a count : ℕ) (s : List ℕ) (room : count ≤ length s) where
   pub none-among : ((k : ℕ) → k < count → a ≡ getD s k 0 → ⊥) → false ≡ among a (take count s)

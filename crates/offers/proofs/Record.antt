@@ -5,38 +5,15 @@
 --   degrees-fit          it is at most 513
 --   slot-free            while fewer points are kept than are needed, there is a slot for the next
 use Prim.Native.Nat.{ℕ, _+_, _*_, _<_, _≤_}
-use native.Mathlib.Decide.{decLe}
 use native.Mathlib.Omega.{arith}
-use mathlib.Core.Bool.{not}
-use mathlib.Core.List.{List}
 use mathlib.Core.Path.{_≡_, ap₂}
-use lib.Dec.{eqb}
-use lib.ListN.{length}
-use borrow.Author.Tests.{eqb-true, not-false}
-use Rattle.scope.specs.Pair.{term, largest, occurs, bound, degreeA, degreeB}
+use Rattle.scope.specs.Pair.{bound, degreeA, degreeB}
 use Rattle.scope.specs.Point.{needed}
-use Rattle.scope.specs.Search.{some-false, largest-bound, largest-most}
-use Rattle.points.specs.Table.{Table}
+use Rattle.points.specs.Table.{Table, table-of}
 use Rattle.job.specs.declared.Job.{Job}
 use Rattle.job.specs.Job.{pairOf}
 use Rattle.job.specs.Standing.{Standing}
 use Rattle.job.specs.StandingLaws.{needed-fits}
-use Rattle.job.specs.TableLaws.{term-high}
-
--- no power of y above the largest that occurs in the rows up to m
-table-of : (m d : ℕ) (t : List ℕ) → length t ≡ 289 → m ≤ 16 → d ≡ largest 16 (occurs m (term 16 t)) → Table m d t
-unfolding occurs
-table-of m d t entries low e = record {
-  entries = entries;
-  rows = low;
-  powers = omega (arith, e, largest-bound 16 (occurs m (term 16 t)));
-  above = λ i k l b. elim (decLe k 16) [
-    | yes h ↦ eqb-true (term 16 t i k) 0
-        (not-false (eqb (term 16 t i k) 0)
-        (some-false (m + 1) (λ i. not (eqb (term 16 t i k) 0)) (largest-most 16 (occurs m (term 16 t)) k h (omega arith)) i (omega arith)))
-    | no h ↦ term-high 16 t i k (omega arith)
-  ];
-}
 
 module _ (j : Job) (s : Standing j) where
   pub table-a : Table (j .m) (j .da) (j .a)

@@ -115,7 +115,7 @@ pub fn needed_for(j: Job) -> u32
     requires { ⌜ Standing j ⌝ }
     ensures { λ r. ⌜ r ≡ needed (pairOf j) ⌝ }
 {
-    j.n * j.da + j.m * j.db + 1
+    points::needed(j.m as usize, j.da as usize, j.n as usize, j.db as usize) as u32
 }
 
 // Whether the polynomial through the kept pairs takes the value at a that would be kept there

@@ -1,6 +1,5 @@
 -- What the strict opening finds on the way, and what follows for its number and its job.
 --
---   table-of            a table of 289 entries with its true degree
 --   Answers             the number and the job are those of the strict opening
 --   refused-shape       a refusal before the points are counted: that number, and the blank record
 --   fresh               a job with no point kept
@@ -9,44 +8,26 @@
 --   table-a, table-b    each laid-out table with its true degree
 --   refused-scarce      too few usable points: 8, and the blank record
 --   accepted            enough of them: 0, and the job
-use Prim.Native.Nat.{ℕ, _+_, _*_, _≤_}
-use native.Mathlib.Decide.{decLe}
+use Prim.Native.Nat.{ℕ, _+_, _*_}
 use native.Mathlib.Omega.{arith}
 use mathlib.Core.Bool.{Bool, true, false, cond, not}
 use mathlib.Core.List.{List}
 use mathlib.Core.Path.{_≡_, sym, ap, ap₂, _∙_}
-use lib.Dec.{leb, eqb}
+use lib.Dec.{leb}
 use lib.ListN.{length, replicate}
-use borrow.Author.Tests.{eqb-true, not-false, eq-eqb, ne-eqb}
+use borrow.Author.Tests.{eq-eqb, ne-eqb}
 use Rattle.scope.specs.Pair.{term, tables, largest, occurs, degreeA, degreeB, bound}
 use Rattle.scope.specs.Point.{usables, needed, enough}
 use Rattle.scope.specs.Number.{_gives_otherwise_, scarce}
-use Rattle.scope.specs.Search.{some-false, largest-bound, largest-most}
 use Rattle.checks.specs.Refusal.{gives-true, gives-false, then-refused, then-done}
 use Rattle.checks.specs.Shape.{shapeNumber, open-shape}
 use Rattle.checks.specs.Facts.{ShapeFacts, shape-facts}
-use Rattle.points.specs.Table.{Table}
+use Rattle.points.specs.Table.{Table, table-of}
 use Rattle.job.specs.declared.Job.{Job}
 use Rattle.job.specs.Job.{spread, opened, blank}
 use Rattle.job.specs.Public.{strictNumber, strictJob}
-use Rattle.job.specs.TableLaws.{term-high}
 use Rattle.job.specs.SamePair.{SamePair, same-degreeA, same-degreeB, same-enough}
 use Rattle.job.specs.OpenLaws.{spread-length, spread-term, tables-same}
-
--- no power of y above the largest that occurs in the rows up to m
-pub table-of : (m d : ℕ) (t : List ℕ) → length t ≡ 289 → m ≤ 16 → d ≡ largest 16 (occurs m (term 16 t)) → Table m d t
-unfolding occurs
-table-of m d t entries low e = record {
-  entries = entries;
-  rows = low;
-  powers = omega (arith, e, largest-bound 16 (occurs m (term 16 t)));
-  above = λ i k l b. elim (decLe k 16) [
-    | yes h ↦ eqb-true (term 16 t i k) 0
-        (not-false (eqb (term 16 t i k) 0)
-        (some-false (m + 1) (λ i. not (eqb (term 16 t i k) 0)) (largest-most 16 (occurs m (term 16 t)) k h (omega arith)) i (omega arith)))
-    | no h ↦ term-high 16 t i k (omega arith)
-  ];
-}
 
 abbrev pub Answers : (p m e n f : ℕ) (s t : List ℕ) → ℕ → Job → Type 0
 Answers p m e n f s t number job = (number ≡ strictNumber p m e n f s t) × (job ≡ strictJob p m e n f s t)

@@ -17,7 +17,7 @@ use lib.ListN.{length, getD, set, replicate, length-replicate}
 use lib.Seq.{ext-getD}
 use Rattle.scope.specs.Pair.{size, term, place}
 use Rattle.job.specs.Job.{spread}
-use Rattle.job.specs.TableLaws.{term-inside, term-high}
+use Rattle.scope.specs.TableLaws.{term-inside, term-high}
 use Rattle.job.specs.OpenLaws.{spread-length, spread-getD, spread-outside, getD-zeros}
 use Rattle.points.proofs.Stores.{Stored, stored-none, stored-up}
 use Rattle.opening.specs.Row.{moved}

@@ -2,7 +2,7 @@
 use job::Job;
 use job::JobAnswer;
 ghost use mathlib.Core.Path.{_≡_};
-ghost use Prim.Native.Nat.{_+_, _*_, _≤_};
+ghost use Prim.Native.Nat.{_+_, _≤_};
 ghost use lib.ListN.{length};
 ghost use Rattle.scope.specs.Pair.{size};
 ghost use Rattle.job.specs.Job as layout;
@@ -65,17 +65,6 @@ fn refused(number: u32) -> JobAnswer
     JobAnswer { number, job }
 }
 
-// How many points a pair of these degrees needs: D + 1
-fn points_needed(m: usize, da: usize, n: usize, db: usize) -> usize
-    requires { ⌜ m ≤ 16 ⌝ }
-    requires { ⌜ da ≤ 16 ⌝ }
-    requires { ⌜ n ≤ 16 ⌝ }
-    requires { ⌜ db ≤ 16 ⌝ }
-    ensures { λ r. ⌜ r ≡ n * da + m * db + 1 ⌝ }
-{
-    n * da + m * db + 1
-}
-
 // The strict opening: the number of the first refusal and the blank record, or 0 and the job with no point kept.
 // D, and with it 8, goes by the powers of y that really occur.
 pub fn strict(p: u32, m: u32, e: u32, n: u32, f: u32, s: &[u32], t: &[u32]) -> JobAnswer
@@ -90,7 +79,7 @@ pub fn strict(p: u32, m: u32, e: u32, n: u32, f: u32, s: &[u32], t: &[u32]) -> J
     let b = spread(t, n as usize, f as usize);
     let degree_a = points::true_degree(&a, m as usize);
     let degree_b = points::true_degree(&b, n as usize);
-    let wanted = points_needed(m as usize, degree_a, n as usize, degree_b);
+    let wanted = points::needed(m as usize, degree_a, n as usize, degree_b);
     if !points::enough_usable(
         p,
         &a,

@@ -167,6 +167,17 @@ pub fn true_degree(t: &[u32], m: usize) -> usize
     0
 }
 
+// How many points a pair of these degrees needs: D + 1
+pub fn needed(m: usize, da: usize, n: usize, db: usize) -> usize
+    requires { ⌜ m ≤ 16 ⌝ }
+    requires { ⌜ da ≤ 16 ⌝ }
+    requires { ⌜ n ≤ 16 ⌝ }
+    requires { ⌜ db ≤ 16 ⌝ }
+    ensures { λ r. ⌜ r ≡ n * da + m * db + 1 ⌝ }
+{
+    n * da + m * db + 1
+}
+
 // Zeros in the first count places
 fn clear(out: &mut [u32], count: usize)
     requires { ⌜ count ≤ length (now out) ⌝ }

@@ -1,6 +1,5 @@
 -- A fresh job filled by the points 0, 1, 2, .. in turn, until it has as many as it needs.
 --
---   offered-unusable    a point that is not usable changes nothing
 --   Filling j a k       k is j offered the usable points below a, which are not more than those needed
 --   upto j a            j offered the usable points below a
 --   upto-count          of a fresh j it keeps all of them, up to those needed
@@ -15,10 +14,11 @@ use Prim.Native.Nat.{ℕ, suc, _+_, _<_, _≤_, min}
 use native.Mathlib.Decide.{decLe}
 use native.Mathlib.Numerals.{add-one}
 use native.Mathlib.Omega.{arith}
-use mathlib.Core.Bool.{Bool, true, false}
+use mathlib.Core.Bool.{Bool, true, false, and-false}
 use mathlib.Core.List.{List, [], _∷_}
 use mathlib.Core.Logic.{inl}
 use mathlib.Core.Path.{_≡_, refl, sym, ap, _∙_, subst}
+use lib.Dec.{ltb}
 use lib.ListN.{length, take, length-append}
 use borrow.Author.Tests.{leb-true}
 use Rattle.scope.specs.Pair.{Pair}
@@ -28,24 +28,17 @@ use Rattle.points.specs.Usables.{usables-skip, usables-take, smallest-is}
 use Rattle.job.specs.declared.Job.{Job}
 use Rattle.job.specs.Job.{pairOf, keptPoints}
 use Rattle.job.specs.Calls.{offered, lotted}
-use Rattle.job.specs.Demand.{counting, distinct}
+use Rattle.job.specs.Demand.{counts, counting, distinct}
 use Rattle.job.specs.Standing.{Standing}
-use Rattle.job.specs.TestLaws.{pointNumber-zero}
-use Rattle.job.specs.StandingLaws.{offer-kept, offered-else, lotted-standing, lotted-pair, lotted-append}
-use Rattle.job.specs.DemandLaws.{lotted-count}
+use Rattle.job.specs.StandingLaws.{lotted-standing, lotted-pair, lotted-append}
+use Rattle.job.specs.DemandLaws.{idle-uncounted, lotted-count}
 use Rattle.job.specs.OneShot.{usables-rising, counting-rising}
-
-offered-unusable : (j : Job) (a : ℕ) → usable (pairOf j) a ≡ false → offered j a ≡ j
-offered-unusable j a h = offered-else j a (λ e. clash (pointNumber-zero (pairOf j) (keptPoints j) a .0 (offer-kept j a e .0) .2))
-  where
-    clash : usable (pairOf j) a ≡ true → ⊥
-    clash w = let z : _≡_ {A = ℕ} 0 1 = cc in omega arith
 
 upto : Job → ℕ → Job
 upto j a = lotted j (usables (pairOf j) a)
 
 upto-next : (j : Job) (a : ℕ) → upto j (suc a) ≡ offered (upto j a) a
-unfolding upto
+unfolding upto counts
 upto-next j a = go (usable (pairOf j) a) refl
   where
     go : (t : Bool) → usable (pairOf j) a ≡ t → upto j (suc a) ≡ offered (upto j a) a
@@ -53,7 +46,7 @@ upto-next j a = go (usable (pairOf j) a) refl
         ap (lotted j) (usables-take (pairOf j) a u) ∙ lotted-append j (usables (pairOf j) a) (a ∷ []) ∙ unfold lotted in refl
     go false u =
         ap (lotted j) (usables-skip (pairOf j) a u)
-        ∙ sym (offered-unusable (upto j a) a (ap (λ (P : Pair). usable P a) (lotted-pair j (usables (pairOf j) a)) ∙ u))
+        ∙ sym (idle-uncounted (upto j a) a (rw (ap (λ (P : Pair). usable P a) (lotted-pair j (usables (pairOf j) a)) ∙ u) (and-false (ltb a (pairOf (upto j a) .p)))))
 
 -- one number more is at most one usable point more
 usables-step : (P : Pair) (a : ℕ) → length (usables P (suc a)) ≤ length (usables P a) + 1

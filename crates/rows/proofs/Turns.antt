@@ -16,18 +16,17 @@ use mathlib.Core.Path.{_≡_, refl, sym, ap, ap₂, subst, _∙_}
 use lib.ListN.{length, getD, set}
 use lib.Seq.{take-all}
 use Rattle.ring.specs.Ring.{Ring, pow, sign}
-use Rattle.ring.specs.RingLaws.{one-⊗}
 use Rattle.residue.specs.Prime.{Prime}
 use Rattle.residue.specs.Residue.{residues, res, val, res-val}
 use Rattle.euclid.specs.Row.{declared, degree, lead}
 use Rattle.euclid.specs.RowLaws.{trim-length, ended-degree, ended-lead}
 use Rattle.euclid.specs.Division.{remainder, count}
 use Rattle.euclid.specs.DivisionLaws.{remainder-length}
-use Rattle.euclid.specs.Sequence.{monic, following, sequence, turns, final, leads, byLast, formula, steps}
+use Rattle.euclid.specs.Sequence.{monic, following, sequence, byLast, formula, steps}
 use Rattle.euclid.specs.MonicLaws.{monic-length, monic-declared, monic-last}
 use Rattle.euclid.specs.FollowingLaws.{Neighbours, next, following-none, following-some}
 use Rattle.euclid.specs.StepsLaws.{steps-bound}
-use Rattle.euclid.specs.SequenceLaws.{formula-step, formula-head}
+use Rattle.euclid.specs.SequenceLaws.{formula-two, formula-step, formula-head}
 use Rattle.rows.specs.Last.{lastRow, Lies}
 use Rattle.rows.proofs.Bounds.{declared-minus}
 use Rattle.rows.proofs.Sides.{lies-swap, lies-front}
@@ -79,13 +78,7 @@ pub next-constant : (p : ℕ) (a b : List ℕ) → length b - 1 ≡ 0 → next p
 next-constant p a b e = empty (next p a b) (omega (arith, next-length p a b, declared-minus b))
 
 module _ (p : ℕ) where
-  open Ring (residues p) using (C, _⊗_, 𝟘, ⊗-one)
-
-  -- the formula of two rows
-  two-rows : (a b : List ℕ) → formula p (a ∷ b ∷ []) ≡ byLast p (degree b) (pow (residues p) (res p (lead b)) (degree a))
-  unfolding formula final leads turns sign
-  two-rows a b =
-      ap (byLast p (degree b)) (one-⊗ (residues p) _ ∙ ⊗-one (pow (residues p) (res p (lead b)) (degree a)))
+  open Ring (residues p) using (C, _⊗_, 𝟘)
 
   -- which of the two factors the last degree lets stand
   pub byLast-zero : {j : ℕ} (x : C) → j ≡ 0 → byLast p j x ≡ x
@@ -143,7 +136,7 @@ module _ (p : ℕ) where
       unfolding steps lastRow
       answer-last {w} u {v} {s} {len} ev es ew el =
           subst (λ (rs : List (List ℕ)). Answer p rs u w v s 1 len) (sym sequence-last) (
-            ev ∙ ap (val p) (sym (two-rows a b ∙ ap₂ (byLast p) degree-second power-is)),
+            ev ∙ ap (val p) (sym (formula-two p a b ∙ ap₂ (byLast p) degree-second power-is)),
             (
               es ∙ sym (add-zero _ ∙ steps-is),
               record {

@@ -2,46 +2,40 @@
 --
 --   Within P               A and B have no power of y above their bounds e and f
 --   tables-within          tables give such a pair
---   largest-most           no power above the largest is there
+--   above-largest          a coefficient of a power above the largest that occurs is 0
 --   determinant-takes      theorem 7: degree at most D, and at every point a the value kept there
-use Prim.Native.Nat.{ℕ, zero, suc, _+_, _*_, _<_, _≤_}
+use Prim.Native.Nat.{ℕ, zero, suc, _+_, _<_, _≤_}
 use native.Mathlib.Omega.{arith}
-use native.Mathlib.Decide.{decLt, decLe}
-use native.Mathlib.Numerals.{add-one}
-use mathlib.Core.Bool.{Bool, true, false, cond, not, _||_}
-use mathlib.Core.List.{List, [], _∷_}
+use native.Mathlib.Decide.{decLt}
+use mathlib.Core.Bool.{not}
+use mathlib.Core.List.{List}
 use mathlib.Core.Path.{_≡_, refl, sym, ap, _∙_, subst}
-use lib.Dec.{leb, eqb, nleb→lt}
+use lib.Dec.{eqb}
 use lib.ListN.{length, getD}
-use borrow.Author.Tests.{lt-leb, eqb-true, not-false}
+use borrow.Author.Tests.{eqb-true, not-false}
 use Rattle.ring.specs.Ring.{Ring}
-use Rattle.residue.specs.Residue.{residues, res, val, res-val, res-zero}
+use Rattle.residue.specs.Residue.{residues, res, res-val, res-zero}
 use Rattle.sylvester.specs.Sylvester.{resultant}
 use Rattle.sylvester.specs.Laws.{resultant-ext}
-use Rattle.polynomial.specs.Poly.{poly}
 use Rattle.polynomial.specs.Value.{AtMost, value, Takes, takes-value, value-more}
 use Rattle.euclid.specs.Row.{coef, declared, rowDeterminant}
-use Rattle.scope.specs.Pair.{Pair, tables, term, some, largest, occurs, degreeA, degreeB, bound, polynomial, determinant}
+use Rattle.scope.specs.Pair.{Pair, tables, largest, occurs, degreeA, degreeB, bound, polynomial, determinant}
 use Rattle.scope.specs.Point.{tabulate, valueAt, rowAt, rowA, rowB}
 use Rattle.scope.specs.Search.{some-false, largest-bound, largest-most}
+use Rattle.scope.specs.TableLaws.{term-high}
 use Rattle.scope.specs.Evaluation.{takes-resultant}
 
 pub record Within (P : Pair) : Type 0 where
   pub inA : (i j : ℕ) → P .e < j → P .A i j ≡ 0
   pub inB : (i j : ℕ) → P .f < j → P .B i j ≡ 0
 
-term-within : (e : ℕ) (t : List ℕ) (i j : ℕ) → e < j → term e t i j ≡ 0
-unfolding term
-term-within e t i j h = rw (lt-leb j e h) refl
-
 pub tables-within : (p m e n f : ℕ) (s t : List ℕ) → Within (tables p m e n f s t)
 unfolding tables
-tables-within p m e n f s t = record { inA = term-within e s; inB = term-within f t }
+tables-within p m e n f s t = record { inA = term-high e s; inB = term-high f t }
 
--- a coefficient of a power above the largest that occurs is 0
-above : (m e : ℕ) (A : ℕ → ℕ → ℕ) → ((i j : ℕ) → e < j → A i j ≡ 0) → (i j : ℕ) → i ≤ m → largest e (occurs m A) < j → A i j ≡ 0
+pub above-largest : (m e : ℕ) (A : ℕ → ℕ → ℕ) → ((i j : ℕ) → e < j → A i j ≡ 0) → (i j : ℕ) → i ≤ m → largest e (occurs m A) < j → A i j ≡ 0
 unfolding occurs
-above m e A h i j b l = elim (decLt e j) [ yes o ↦ h i j o | no o ↦ inside (omega arith) ]
+above-largest m e A h i j b l = elim (decLt e j) [ yes o ↦ h i j o | no o ↦ inside (omega arith) ]
   where
     inside : j ≤ e → A i j ≡ 0
     inside o = eqb-true (A i j) 0 (not-false (eqb (A i j) 0) (some-false (m + 1) (λ i. not (eqb (A i j) 0)) (largest-most e (occurs m A) j o l) i (omega arith)))
@@ -59,7 +53,7 @@ takes-side p m e A a h i b =
     d = largest e (occurs m A)
 
     high : AtMost (residues p) d (polynomial p A i)
-    high j l = ap (res p) (above m e A h i j b l) ∙ res-zero p
+    high j l = ap (res p) (above-largest m e A h i j b l) ∙ res-zero p
 
 pub tabulate-length : (n : ℕ) (f : ℕ → ℕ) → length (tabulate n f) ≡ n
 unfolding tabulate

@@ -6,7 +6,9 @@ pub mod Computing
 pub mod Figures
 pub mod Answers
 pub mod Search
+pub mod TableLaws
 pub mod Evaluation
 pub mod Degree
 pub mod Recovery
 pub mod Usable
+pub mod TestLaws

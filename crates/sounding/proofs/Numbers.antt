@@ -11,7 +11,7 @@ use mathlib.Core.Path.{_≡_, sym, ap, _∙_}
 use lib.ListN.{getD}
 use borrow.Author.Tests.{not-true}
 use Rattle.scope.specs.Number.{outside, composite, tooHigh}
-use Rattle.job.specs.TestLaws.{modulus-tests, tooHigh-false}
+use Rattle.scope.specs.TestLaws.{modulus-tests, tooHigh-false}
 use Rattle.job.specs.SoundTests.{done, _also_, conj-each}
 use Rattle.sounding.specs.Parts.{soundNumbers}
 use Rattle.sounding.specs.Opened.{Numbers}

@@ -12,19 +12,16 @@
 use Prim.Native.Nat.{ℕ, _+_, _*_, _≤_, _<_}
 use native.Mathlib.Nat.{mul-le-mul}
 use native.Mathlib.Omega.{arith}
-use native.Mathlib.Decide.{decLe}
-use mathlib.Core.Bool.{Bool, true, false, not}
+use mathlib.Core.Bool.{Bool, true, false}
 use mathlib.Core.List.{List, [], _∷_}
 use mathlib.Core.Path.{_≡_, refl, sym, ap, _∙_}
-use lib.Dec.{leb, eqb}
+use lib.Dec.{leb}
 use lib.ListN.{length, getD}
-use borrow.Author.Tests.{eqb-true, not-false}
+use borrow.Author.Tests.{eqb-true}
 use Rattle.residue.specs.Prime.{Prime}
 use Rattle.scope.specs.Pair.{term, occurs, largest, tables, degreeA, degreeB, bound}
 use Rattle.scope.specs.Point.{usable, needed, usables, enough}
-use Rattle.scope.specs.Search.{some-false, largest-bound, largest-most}
-use Rattle.points.specs.Table.{Table}
-use Rattle.job.specs.TableLaws.{term-high}
+use Rattle.points.specs.Table.{Table, table-of}
 use Rattle.job.specs.SoundTests.{done, _also_, conj-each}
 use Rattle.sounding.specs.Parts.{soundTable, soundTables}
 use Rattle.sounding.specs.Opened.{Degrees, Opened}
@@ -40,18 +37,7 @@ table-degrees p m d t long low h = record {
 }
 
 degrees-table : {m d : ℕ} {t : List ℕ} → Degrees m d t → Table m d t
-unfolding occurs
-degrees-table {m} {d} {t} g = record {
-  entries = g .entries;
-  rows = g .rows;
-  powers = omega (arith, g .largest, largest-bound 16 (occurs m (term 16 t)));
-  above = λ i j l h. elim (decLe j 16) [ yes b ↦ inside i j l b h | no b ↦ term-high 16 t i j (omega arith) ];
-}
-  where
-    inside : (i j : ℕ) → i ≤ m → j ≤ 16 → d < j → term 16 t i j ≡ 0
-    inside i j l b h =
-        let none : occurs m (term 16 t) j ≡ false = largest-most 16 (occurs m (term 16 t)) j b (omega (arith, g .largest)) in
-        eqb-true (term 16 t i j) 0 (not-false (eqb (term 16 t i j) 0) (some-false (m + 1) (λ i. not (eqb (term 16 t i j) 0)) none i (omega arith)))
+degrees-table {m} {d} {t} g = table-of m d t (g .entries) (g .rows) (g .largest)
 
 module _ {p m da n db : ℕ} {s t : List ℕ} (o : Opened p m da n db s t) where
   table-a : Table m da s

@@ -22,7 +22,7 @@ use Rattle.scope.specs.Pair.{Pair}
 use Rattle.scope.specs.Point.{usable, kept}
 use Rattle.scope.specs.Number.{among, pointNumber}
 use Rattle.job.specs.Sound.{same, good}
-use Rattle.job.specs.TestLaws.{among-false, pointNumber-zero}
+use Rattle.scope.specs.TestLaws.{among-false, pointNumber-zero}
 use Rattle.job.specs.SoundTests.{both-true, same-true, Good, good-true}
 use Rattle.sounding.specs.Parts.{keptAt, keptPairs}
 

@@ -17,7 +17,7 @@ use lib.Seq.{getD-take, length-take-le}
 use Rattle.scope.specs.Pair.{place, term, some, occurs, largest}
 use Rattle.scope.specs.Number.{over, noLead}
 use Rattle.job.specs.Sound.{zeros}
-use Rattle.job.specs.TableLaws.{term-inside, term-high}
+use Rattle.scope.specs.TableLaws.{term-inside, term-high}
 use Rattle.job.specs.SoundTests.{done, _also_}
 use Rattle.sounding.specs.Parts.{soundTable}
 use Rattle.sounding.proofs.Tests.{failed, decided}

@@ -3,7 +3,7 @@
 use job::Job;
 ghost use mathlib.Core.Path.{_≡_};
 ghost use mathlib.Core.Bool.{true};
-ghost use Prim.Native.Nat.{_+_, _*_, _<_, _≤_};
+ghost use Prim.Native.Nat.{_<_, _≤_};
 ghost use lib.ListN.{length, drop};
 ghost use Rattle.scope.specs.Pair.{tables};
 ghost use Rattle.scope.specs.Point.{enough};
@@ -46,23 +46,12 @@ fn sound_table(p: u32, t: &[u32], m: u32, d: u32) -> bool
     d as usize == points::true_degree(t, rows)
 }
 
-// How many points a pair of these degrees needs: D + 1
-fn points_needed(m: usize, da: usize, n: usize, db: usize) -> usize
-    requires { ⌜ m ≤ 16 ⌝ }
-    requires { ⌜ da ≤ 16 ⌝ }
-    requires { ⌜ n ≤ 16 ⌝ }
-    requires { ⌜ db ≤ 16 ⌝ }
-    ensures { λ r. ⌜ r ≡ n * da + m * db + 1 ⌝ }
-{
-    n * da + m * db + 1
-}
-
 // Whether as many usable points exist as are needed
 fn enough_points(p: u32, ta: &[u32], m: usize, da: usize, tb: &[u32], n: usize, db: usize) -> bool
     requires { ⌜ Opened p m da n db (now ta) (now tb) ⌝ }
     ensures { λ r. ⌜ r ≡ enough (tables p m 16 n 16 (now (ta .entry)) (now (tb .entry))) ⌝ }
 {
-    let wanted = points_needed(m, da, n, db);
+    let wanted = points::needed(m, da, n, db);
     points::enough_usable(p, ta, m, da, tb, n, db, wanted)
 }
 
@@ -185,7 +174,7 @@ fn sound_kept<'a>(
     requires { ⌜ length (now values) ≡ 513 ⌝ }
     ensures { λ r. ⌜ r ≡ soundKept (tables p m 16 n 16 (now (ta .entry)) (now (tb .entry))) (now (points .entry)) (now (values .entry)) count ⌝ }
 {
-    if points_needed(m, da, n, db) < count {
+    if points::needed(m, da, n, db) < count {
         return false;
     }
     if !zeros_from(points, count) {

@@ -2,7 +2,7 @@
 use mathlib.Core.Logic.{⊎-elim, inl, inr}
 use mathlib.Core.Path.{refl, sym, _∙_}
 use Rattle.scope.specs.Number.{tooHigh}
-use Rattle.checks.specs.Facts.{high-false}
+use Rattle.scope.specs.TestLaws.{tooHigh-false}
 use Rattle.checks.specs.Parts.{shape-parts}
 use Rattle.checks.proofs.Chain.{said, neither, one-of, here, past, halted, onward}
 use Rattle.checks.proofs.shape_number.Statement.{statement}
@@ -44,10 +44,10 @@ tables-number-requires c κs =
     let c₃ = c .before .before in
     let c₂ = c₃ .before .before in
     let c₁ = c₂ .before .before in (
-      high-false _ (said (c₁ .before .too-high .ensures) (c₁ .if2 .left)),
+      tooHigh-false _ .0 (said (c₁ .before .too-high .ensures) (c₁ .if2 .left)),
       (
-        high-false _ (said (c₂ .before .too-high2 .ensures) (c₂ .if3 .left)),
-        (high-false _ (said (c₃ .before .too-high3 .ensures) (c₃ .if4 .left)), high-false _ (said (c .before .too-high4 .ensures) (c .if5 .left))),
+        tooHigh-false _ .0 (said (c₂ .before .too-high2 .ensures) (c₂ .if3 .left)),
+        (tooHigh-false _ .0 (said (c₃ .before .too-high3 .ensures) (c₃ .if4 .left)), tooHigh-false _ .0 (said (c .before .too-high4 .ensures) (c .if5 .left))),
       ),
     )
 

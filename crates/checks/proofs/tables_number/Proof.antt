@@ -2,7 +2,7 @@
 use native.Mathlib.Omega.{arith}
 use mathlib.Core.Logic.{⊎-elim}
 use mathlib.Core.Path.{refl}
-use Rattle.checks.specs.Facts.{misfit-false}
+use Rattle.scope.specs.TestLaws.{misfit-false}
 use Rattle.checks.specs.Parts.{tablesNumber}
 use Rattle.checks.proofs.Chain.{said, first, second, neither, here, past}
 use Rattle.checks.proofs.tables_number.Statement.{statement}
@@ -37,12 +37,12 @@ returns-2 c =
 no-lead-requires : tie.Need-no-lead-requires
 no-lead-requires c κs =
     let d = c .before .before .before .before in
-    (omega arith, (omega arith, misfit-false _ _ _ (said (d .before .before .before .misfit .ensures) (d .before .before .if1 .left))))
+    (omega arith, (omega arith, misfit-false _ _ _ .0 (said (d .before .before .before .misfit .ensures) (d .before .before .if1 .left))))
 
 no-lead-requires-2 : tie.Need-no-lead-requires-2
 no-lead-requires-2 c κs =
     let d = c .before .before .before .before .before .before in
-    (omega arith, (omega arith, misfit-false _ _ _ (said (d .before .misfit2 .ensures) (d .if2 .left))))
+    (omega arith, (omega arith, misfit-false _ _ _ .0 (said (d .before .misfit2 .ensures) (d .if2 .left))))
 
 returns-3 : tie.Need-returns-3
 unfolding tablesNumber

@@ -68,8 +68,8 @@ slice-aggregate-true-degree-2 c = sym (long-b (c .before .before .before))
 true-degree-requires-2 : tie.Need-true-degree-requires-2
 true-degree-requires-2 c κs = (long-b (c .before .before .before), shaped (c .before .before .before .before .before) .highN)
 
-points-needed-requires : tie.Need-points-needed-requires
-points-needed-requires c κs =
+needed-requires : tie.Need-needed-requires
+needed-requires c κs =
     let f = shaped (c .before .before .before .before .before .before) in
     let a = table-a (found c) in
     let b = table-b (found c) in
@@ -90,7 +90,7 @@ refused-requires-2 c κs = tt
 returns-2 : tie.Need-returns-2
 returns-2 c =
     let d = c .before .before in
-    refused-scarce (found (d .before .before .before .before)) _ (d .before .before .before .points-needed .ensures) (d .enough-usable .ensures) (not-true _ (c .before .if2 .taken)) (c .refused2 .ensures)
+    refused-scarce (found (d .before .before .before .before)) _ (d .before .before .before .needed .ensures) (d .enough-usable .ensures) (not-true _ (c .before .if2 .taken)) (c .refused2 .ensures)
 
 cast-da : tie.Need-cast-da
 cast-da c = omega (arith, table-a (found (c .before .before .before .before .before)) .powers)
@@ -101,7 +101,7 @@ cast-db c = omega (arith, table-b (found (c .before .before .before .before .bef
 returns-3 : tie.Need-returns-3
 returns-3 c =
     let d = c .before in
-    accepted (found (d .before .before .before .before)) _ (d .before .before .before .points-needed .ensures) (d .enough-usable .ensures) (not-false _ (c .if2 .left))
+    accepted (found (d .before .before .before .before)) _ (d .before .before .before .needed .ensures) (d .enough-usable .ensures) (not-false _ (c .if2 .left))
 
 pub strict-spec : {M : Type 1} → statement M
 strict-spec =
@@ -116,7 +116,7 @@ strict-spec =
     true-degree-requires
     slice-aggregate-true-degree-2
     true-degree-requires-2
-    points-needed-requires
+    needed-requires
     slice-aggregate-enough-usable
     slice-aggregate-enough-usable-2
     enough-usable-requires

@@ -3,14 +3,14 @@ use Rattle.sounding.proofs.Opened.{needed-asks, usable-asks, enough-is}
 use Rattle.sounding.proofs.enough_points.Statement.{statement}
 use Rattle.sounding.proofs.enough_points.Tie as tie
 
-points-needed-requires : tie.Need-points-needed-requires
-points-needed-requires c κs = needed-asks (c .before .before .pre)
+needed-requires : tie.Need-needed-requires
+needed-requires c κs = needed-asks (c .before .before .pre)
 
 enough-usable-requires : tie.Need-enough-usable-requires
 enough-usable-requires c κs = usable-asks (c .before .before .before .pre)
 
 returns : tie.Need-returns
-returns c = enough-is (c .before .before .before .before .pre) (c .before .points-needed .ensures) (c .enough-usable .ensures)
+returns c = enough-is (c .before .before .before .before .pre) (c .before .needed .ensures) (c .enough-usable .ensures)
 
 pub enough-points-spec : {M : Type 1} → statement M
-enough-points-spec = tie.close (tie.spec points-needed-requires enough-usable-requires returns)
+enough-points-spec = tie.close (tie.spec needed-requires enough-usable-requires returns)

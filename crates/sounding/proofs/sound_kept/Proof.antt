@@ -8,13 +8,13 @@ use borrow.Author.Needs.{needs}
 use Rattle.sounding.proofs.sound_kept.Statement.{statement}
 use Rattle.sounding.proofs.sound_kept.Tie as tie
 
-points-needed-requires : tie.Need-points-needed-requires
-points-needed-requires c κs = let low = needed-asks (c .before .before .before .before .pre .0) in omega arith
+needed-requires : tie.Need-needed-requires
+needed-requires c κs = needed-asks (c .before .before .before .before .pre .0)
 
 returns : tie.Need-returns
 returns c =
     let o = c .before .before .before .before .before .before .pre .0 in
-    kept-fails _ _ _ _ 0 (count-many o (omega (arith, needed-low o, c .before .points-needed .ensures)))
+    kept-fails _ _ _ _ 0 (count-many o (omega (arith, needed-low o, c .before .needed .ensures)))
 
 zeros-from-requires : tie.Need-zeros-from-requires
 zeros-from-requires c κs = search needs
@@ -32,13 +32,13 @@ kept-pairs-requires : tie.Need-kept-pairs-requires
 kept-pairs-requires c κs =
     let o = c .before .before .before .before .before .before .before .before .before .before .pre .0 in
     let low = needed-low o in
-    let wanted = c .before .before .before .before .before .points-needed .ensures in
+    let wanted = c .before .before .before .before .before .needed .ensures in
     (o, (omega arith, omega arith))
 
 returns-4 : tie.Need-returns-4
 returns-4 c =
     kept-decided _ _ _ _
-    (count-few (c .before .before .before .before .before .before .before .before .before .before .before .pre .0) (omega (arith, c .before .before .before .before .before .before .points-needed .ensures)))
+    (count-few (c .before .before .before .before .before .before .before .before .before .before .before .pre .0) (omega (arith, c .before .before .before .before .before .before .needed .ensures)))
     (sym (c .before .before .before .before .zeros-from .ensures) ∙ not-false _ (c .before .before .before .if2 .left))
     (sym (c .before .before .zeros-from2 .ensures) ∙ not-false _ (c .before .if3 .left))
     (c .kept-pairs .ensures)
@@ -47,7 +47,7 @@ pub sound-kept-spec : {M : Type 1} → statement M
 sound-kept-spec =
     tie.close
     (tie.spec
-    points-needed-requires
+    needed-requires
     returns
     zeros-from-requires
     returns-2

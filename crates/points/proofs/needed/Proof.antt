@@ -1,10 +1,10 @@
--- `opening::points_needed`: the two products are at most 256.
+-- `points::needed`: the two products are at most 256.
 use Prim.Native.Nat.{ℕ, _*_, _≤_}
 use borrow.Author.Needs.{needs}
 use native.Mathlib.Nat.{mul-le-mul}
 use native.Mathlib.Omega.{arith}
-use Rattle.opening.proofs.points_needed.Statement.{statement}
-use Rattle.opening.proofs.points_needed.Tie as tie
+use Rattle.points.proofs.needed.Statement.{statement}
+use Rattle.points.proofs.needed.Tie as tie
 
 small : (a b : ℕ) → a ≤ 16 → b ≤ 16 → a * b ≤ 256
 small a b ha hb = mul-le-mul {n₁ = a} {m₁ = b} {n₂ = 16} {m₂ = 16} ha hb
@@ -31,5 +31,5 @@ add-result-2 c = omega (arith, left c, right c)
 returns : tie.Need-returns
 returns c = search needs
 
-pub points-needed-spec : {M : Type 1} → statement M
-points-needed-spec = tie.close (tie.spec mul-result mul-result-2 add-result add-result-2 returns)
+pub needed-spec : {M : Type 1} → statement M
+needed-spec = tie.close (tie.spec mul-result mul-result-2 add-result add-result-2 returns)
