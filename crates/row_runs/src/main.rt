@@ -85,18 +85,16 @@ fn moduli() {
 fn shapes() {
     let long = [1u32; 17];
     let longer = [1u32; 18];
-    resultant(b"17 entries", 7, &long, &[1, 1]);
-    resultant(b"18 entries", 7, &longer, &[1, 1]);
-    resultant(b"empty", 7, &[], &[1, 1]);
+    both(b"17 entries", 7, &long, &[1, 1]);
+    both(b"18 entries", 7, &longer, &[1, 1]);
+    both(b"empty", 7, &[], &[1, 1]);
     resultant(b"empty beside 18", 7, &[], &longer);
-    resultant(b"entry p-1", 7, &[6, 1], &[1, 1]);
-    resultant(b"entry p", 7, &[7, 1], &[1, 1]);
-    resultant(b"last entry 0", 7, &[1, 0], &[1, 1]);
+    both(b"entry p-1", 7, &[6, 1], &[1, 1]);
+    both(b"entry p", 7, &[7, 1], &[1, 1]);
+    both(b"last entry 0", 7, &[1, 0], &[1, 1]);
     resultant(b"last 0 beside entry p", 7, &[1, 0], &[7, 1]);
-    plain(b"m+n=6", 7, &[1, 2, 3, 4], &[5, 6, 0, 1]);
-    plain(b"m+n=7", 7, &[1, 2, 3, 4], &[5, 6, 0, 0, 1]);
-    resultant(b"m+n=6", 7, &[1, 2, 3, 4], &[5, 6, 0, 1]);
-    resultant(b"m+n=7", 7, &[1, 2, 3, 4], &[5, 6, 0, 0, 1]);
+    both(b"m+n=6", 7, &[1, 2, 3, 4], &[5, 6, 0, 1]);
+    both(b"m+n=7", 7, &[1, 2, 3, 4], &[5, 6, 0, 0, 1]);
 }
 
 fn divisions() {

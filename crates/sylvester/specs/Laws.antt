@@ -3,6 +3,7 @@
 --   resultant-ext               only the coefficients up to the declared degrees count
 --   resultant-const-left        m = 0: a_0^n
 --   resultant-const-right       n = 0: b_0^m
+--   resultant-const-both        m = n = 0: 1
 --   resultant-swap              swapping A and B multiplies by (-1)^(mn)
 --   resultant-scale-left        multiplying A by c multiplies by c^n
 --   resultant-scale-right       multiplying B by c multiplies by c^m
@@ -105,6 +106,10 @@ module _ (R : Ring) where
       rw add-zero (det-triangular R m (sylvester R m zero a b) (b zero)
       (λ i k h l. moved-out R i (top R zero b) k l)
       (λ i h. diagonal zero b i))
+
+  pub resultant-const-both : (a b : ℕ → C) → resultant R zero zero a b ≡ 𝟙
+  unfolding pow
+  resultant-const-both a b = resultant-const-left zero a b
 
   pub resultant-swap : (m n : ℕ) (a b : ℕ → C) → resultant R m n a b ≡ sign R (m * n) ⊗ resultant R n m b a
   unfolding resultant sylvester
