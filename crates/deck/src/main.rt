@@ -10,8 +10,9 @@ use libc::STDOUT_FILENO;
 ghost use Prim.Native.Nat.{_+_, _^_, _≤_, _<_};
 ghost use lib.ListN.{length};
 ghost use Rattle.decks.specs.State.{Fit};
+ghost use Rattle.deck.specs.Run.{Onward, Advanced};
 
-// What came of a body: how many bytes, and whether a read failed on the way.
+// What reading brought: how many bytes, and whether a read failed.
 struct Arrival {
     count: usize,
     failed: bool,
@@ -80,8 +81,7 @@ fn read_body(body: &mut [u8], need: usize) -> Arrival
 // The run stops here.
 fn stopped(run: Run) -> Run
     requires { ⌜ Fit (run .state) ⌝ }
-    ensures { λ r. ⌜ Fit (r .state) ⌝ }
-    ensures { λ r. ⌜ r .offset ≤ run .offset + 8 ⌝ }
+    ensures { λ r. ⌜ Onward run r ⌝ }
 {
     let mut next = run;
     next.halt = true;
@@ -91,8 +91,7 @@ fn stopped(run: Run) -> Run
 // A failed read stops the run with no line.
 fn unreadable(run: Run) -> Run
     requires { ⌜ Fit (run .state) ⌝ }
-    ensures { λ r. ⌜ Fit (r .state) ⌝ }
-    ensures { λ r. ⌜ r .offset ≤ run .offset + 8 ⌝ }
+    ensures { λ r. ⌜ Onward run r ⌝ }
 {
     complain(b"deck: reading failed\n");
     stopped(run)
@@ -101,8 +100,7 @@ fn unreadable(run: Run) -> Run
 // The end of input: the last line.
 fn finished(run: Run) -> Run
     requires { ⌜ Fit (run .state) ⌝ }
-    ensures { λ r. ⌜ Fit (r .state) ⌝ }
-    ensures { λ r. ⌜ r .offset ≤ run .offset + 8 ⌝ }
+    ensures { λ r. ⌜ Onward run r ⌝ }
 {
     let mut line = [0u8; 64];
     let length = end_line(&mut line);
@@ -111,11 +109,10 @@ fn finished(run: Run) -> Run
 }
 
 // A record of which `body` arrived: its step, and its line.
-fn stepped(run: Run, kind: u8, body: &[u8]) -> Run
+fn advanced(run: Run, kind: u8, body: &[u8]) -> Run
     requires { ⌜ Fit (run .state) ⌝ }
     requires { ⌜ run .offset + 8 < 2 ^ 64 ⌝ }
-    ensures { λ r. ⌜ Fit (r .state) ⌝ }
-    ensures { λ r. ⌜ r .offset ≤ run .offset + 8 ⌝ }
+    ensures { λ r. ⌜ Advanced run kind (now (body .entry)) r ⌝ }
 {
     let mut line = [0u8; 8192];
     let before = run.state;
@@ -134,8 +131,7 @@ fn stepped(run: Run, kind: u8, body: &[u8]) -> Run
 fn recorded(run: Run, kind: u8) -> Run
     requires { ⌜ Fit (run .state) ⌝ }
     requires { ⌜ run .offset + 8 < 2 ^ 64 ⌝ }
-    ensures { λ r. ⌜ Fit (r .state) ⌝ }
-    ensures { λ r. ⌜ r .offset ≤ run .offset + 8 ⌝ }
+    ensures { λ r. ⌜ Onward run r ⌝ }
 {
     let mut body = [0u8; 7];
     let arrival = read_body(&mut body, body_length(kind));
@@ -143,15 +139,14 @@ fn recorded(run: Run, kind: u8) -> Run
         return unreadable(run);
     }
     let count = arrival.count;
-    stepped(run, kind, &body[..count])
+    advanced(run, kind, &body[..count])
 }
 
 // The next record, or the end of input.
 fn turn(run: Run) -> Run
     requires { ⌜ Fit (run .state) ⌝ }
     requires { ⌜ run .offset + 8 < 2 ^ 64 ⌝ }
-    ensures { λ r. ⌜ Fit (r .state) ⌝ }
-    ensures { λ r. ⌜ r .offset ≤ run .offset + 8 ⌝ }
+    ensures { λ r. ⌜ Onward run r ⌝ }
 {
     let mut kind = [0u8; 1];
     let arrival = read_some(&mut kind);

@@ -30,7 +30,7 @@ loop-less : tie.Need-loop-less Inv-loop μ-loop
 loop-less c = omega arith
 
 loop-again : tie.Need-loop-again Inv-loop μ-loop
-loop-again c = (c .before .turn .ensures .0, omega arith)
+loop-again c = (c .before .turn .ensures .fit, omega (arith, c .before .turn .ensures .near))
 
 exhausted-requires : tie.Need-exhausted-requires Inv-loop μ-loop
 exhausted-requires c κs = tt

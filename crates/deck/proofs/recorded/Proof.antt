@@ -4,7 +4,7 @@ use native.Mathlib.Omega.{arith}
 use mathlib.Core.Path.{sym}
 use lib.ListN.{length}
 use lib.Seq.{length-take-le}
-use Rattle.decks.specs.StepLaws.{body-low}
+use Rattle.decks.specs.StepLaws.{stepped-fit, body-low}
 use borrow.Author.Needs.{needs}
 use Rattle.deck.proofs.recorded.Statement.{statement}
 use Rattle.deck.proofs.recorded.Tie as tie
@@ -33,14 +33,20 @@ returns c = search needs
 array-share-prefix-body : tie.Need-array-share-prefix-body
 array-share-prefix-body c = within (c .before .before)
 
-slice-aggregate-stepped : tie.Need-slice-aggregate-stepped
-slice-aggregate-stepped c = sym (length-take-le _ _ (within (c .before .before .before)))
+slice-aggregate-advanced : tie.Need-slice-aggregate-advanced
+slice-aggregate-advanced c = sym (length-take-le _ _ (within (c .before .before .before)))
 
-stepped-requires : tie.Need-stepped-requires
-stepped-requires c κs = search needs
+advanced-requires : tie.Need-advanced-requires
+advanced-requires c κs = search needs
 
 returns-2 : tie.Need-returns-2
-returns-2 c = search needs
+returns-2 c =
+    let start = c .before .before .before .before .before .before .before in
+    let after = c .advanced .ensures in
+    record {
+      fit = rw (after .state) (stepped-fit _ _ _ _ (start .pre .0));
+      near = omega (arith, after .offset, body-low (start .args .kind));
+    }
 
 pub recorded-spec : {M : Type 1} → statement M
 recorded-spec =
@@ -52,6 +58,6 @@ recorded-spec =
     unreadable-requires
     returns
     array-share-prefix-body
-    slice-aggregate-stepped
-    stepped-requires
+    slice-aggregate-advanced
+    advanced-requires
     returns-2)

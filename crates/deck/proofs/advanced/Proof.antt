@@ -1,11 +1,13 @@
--- `deck::stepped`: the line fits its buffer, the state stays fit, and the offset moves on by 8 bytes at most.
+-- `deck::advanced`: the step, whose line fits its buffer; the offset moves on by the record.
+use Prim.Native.Nat.{ℕ, _+_}
 use native.Mathlib.Omega.{arith}
-use mathlib.Core.Path.{sym}
+use mathlib.Core.Bool.{Bool, true, false, not, _||_}
+use mathlib.Core.Path.{_≡_, refl, sym, ap}
 use lib.Seq.{length-take-le}
-use Rattle.decks.specs.StepLaws.{stepped-fit, begins-fits, body-low}
+use Rattle.decks.specs.StepLaws.{begins-fits, body-low}
 use borrow.Author.Needs.{needs}
-use Rattle.deck.proofs.stepped.Statement.{statement}
-use Rattle.deck.proofs.stepped.Tie as tie
+use Rattle.deck.proofs.advanced.Statement.{statement}
+use Rattle.deck.proofs.advanced.Tie as tie
 
 slice-aggregate-step : tie.Need-slice-aggregate-step
 slice-aggregate-step c = search needs
@@ -33,11 +35,19 @@ add-t17 c = omega (arith, c .body-length .ensures, body-low (c .before .before .
 
 returns : tie.Need-returns
 returns c =
-    let start = c .before .before .before .before .before .before .before .before .before .before .before in
-    (rw (c .before .before .before .before .before .before .before .step .ensures .state) (stepped-fit _ _ _ _ (start .pre .0)), omega (arith, c .before .body-length .ensures, body-low (start .args .kind)))
+    let step = c .before .before .before .before .before .before .before .step in
+    record {
+      state = step .ensures .state;
+      offset = ap (λ (k : ℕ). c .before .before .before .before .before .before .before .before .before .before .before .args .run .offset + 1 + k) (c .before .body-length .ensures);
+      halt = λ on. rw (← step .ensures .halt) (first (step .result .halt) (not (c .before .before .before .before .print .result)) on);
+    }
+  where
+    first : (a b : Bool) → (a || b) ≡ false → a ≡ false
+    first true b e = e
+    first false b e = refl
 
-pub stepped-spec : {M : Type 1} → statement M
-stepped-spec =
+pub advanced-spec : {M : Type 1} → statement M
+advanced-spec =
     tie.close
     (tie.spec
     slice-aggregate-step

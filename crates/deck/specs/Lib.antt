@@ -1,0 +1,2 @@
+-- What the functions of the program promise.
+pub mod Run
