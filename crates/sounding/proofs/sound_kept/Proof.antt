@@ -9,7 +9,7 @@ use Rattle.sounding.proofs.sound_kept.Statement.{statement}
 use Rattle.sounding.proofs.sound_kept.Tie as tie
 
 needed-requires : tie.Need-needed-requires
-needed-requires c κs = needed-asks (c .before .before .before .before .pre .0)
+needed-requires c κs = let low = needed-asks (c .before .before .before .before .pre .0) in omega arith
 
 returns : tie.Need-returns
 returns c =
