@@ -1,11 +1,15 @@
 -- `stream::next_record`: the kind's arrival, then the body's.
 use native.Mathlib.Omega.{arith}
+use mathlib.Core.Bool.{true, false}
 use mathlib.Core.Path.{_≡_, refl}
 use Prim.Native.Nat.{ℕ}
 use Rattle.decks.specs.StepLaws.{body-low}
 use borrow.Author.Needs.{needs}
 use Rattle.stream.proofs.next_record.Statement.{statement}
 use Rattle.stream.proofs.next_record.Tie as tie
+
+clash : {X : Type 0} → true ≡ false → X
+clash e = let z : _≡_ {A = ℕ} 0 1 = cc in absurd (omega arith)
 
 slice-aggregate-fill : tie.Need-slice-aggregate-fill
 slice-aggregate-fill c = search needs
@@ -37,7 +41,7 @@ returns-2 c =
     record {
       few = omega (arith, rest .ensures .few, need);
       held = rest .kept .0;
-      none = λ f. let z : _≡_ {A = ℕ} 0 1 = cc in absurd (omega arith);
+      none = clash;
       cut = λ l. rest .ensures .why (omega (arith, l, need));
     }
 
