@@ -3,10 +3,10 @@
 --   Rising P b k xs          xs rises, from b on and below k, and every point of it is usable
 --   usables-rising           the usable points below k do
 --   counting-rising          all of them count, and they are different
---   smallest-length, smallest-rising   the points that the one-shot takes: as many as are needed, usable, rising, below p
---   smallest-least           a usable point that it does not take is larger than every one that it takes
 --   range a                  the points 0, 1, .., a-1
 --   counting-range           of these the usable ones count
+--   smallest-length, smallest-rising   the points that the one-shot takes: as many as are needed, usable, rising, below p
+--   smallest-least           a usable point that it does not take is larger than every one that it takes
 --   one-shot-calls           the one-shot's answer, degree and output are those of the read after opening and offering
 use Prim.Native.Nat.{ℕ, zero, suc, _+_, _<_, _≤_, min}
 use native.Mathlib.Nat.{zero-add}
