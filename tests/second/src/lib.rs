@@ -1,12 +1,20 @@
 //! The second program: what the kernel should answer, worked out from the definition and not by the kernel's method, and
-//! the kernel's C interface beside it.
+//! the kernel's C interface and the program `deck` beside it.
+//!
+//! The definition: `definition`, `polynomials`, `pair`, `model`. What is asked: `kernel`, `program`. The comparisons:
+//! `known`, `edges`, `rows`, `jobs` with `calls`, `decks`.
 
+pub mod calls;
 pub mod decks;
 pub mod definition;
 pub mod edges;
 pub mod jobs;
 pub mod kernel;
 pub mod known;
+pub mod model;
+pub mod pair;
+pub mod polynomials;
+pub mod program;
 pub mod random;
 pub mod report;
 pub mod rows;

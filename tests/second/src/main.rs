@@ -14,7 +14,8 @@ fn main() {
         }
     };
     let (cases, seed) = (number(2000), number(20_261_115));
-    let deck = Path::new(env!("CARGO_MANIFEST_DIR")).join("../../target/bin/deck");
+    let root = Path::new(env!("CARGO_MANIFEST_DIR")).join("../..");
+    let deck = root.join("target/bin/deck");
     let reports = [
         known::compare(),
         edges::compare(),
