@@ -2,7 +2,7 @@
 //! the kernel's C interface and the program `deck` beside it.
 //!
 //! The definition: `definition`, `polynomials`, `pair`, `model`. What is asked: `kernel`, `program`. The comparisons:
-//! `known`, `edges`, `rows`, `jobs` with `calls`, `decks`.
+//! `known`, `row_runs`, `edges`, `rows`, `jobs` with `calls`, `decks`.
 
 pub mod calls;
 pub mod decks;
@@ -17,5 +17,6 @@ pub mod polynomials;
 pub mod program;
 pub mod random;
 pub mod report;
+pub mod row_runs;
 pub mod rows;
 pub mod same_steps;

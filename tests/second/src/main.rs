@@ -1,6 +1,6 @@
 //! `second [CASES [SEED]]` compares the kernel with the definition; the seed is printed, and gives the same cases again.
 
-use second::{decks, edges, jobs, known, rows};
+use second::{decks, edges, jobs, known, row_runs, rows};
 use std::path::Path;
 
 fn main() {
@@ -18,6 +18,7 @@ fn main() {
     let deck = root.join("target/bin/deck");
     let reports = [
         known::compare(),
+        row_runs::compare(&root),
         edges::compare(),
         rows::compare(4 * cases, seed),
         jobs::compare(cases, seed),
