@@ -2,11 +2,12 @@
 //! the kernel's C interface and the program `deck` beside it.
 //!
 //! The definition: `definition`, `polynomials`, `pair`, `model`. What is asked: `kernel`, `program`. The comparisons:
-//! `known`, `row_runs`, `edges`, `rows`, `jobs` with `calls`, `decks`.
+//! `known`, `row_runs`, `edges`, `rows`, `jobs` with `calls`, `stored`, `decks`, `delivery`.
 
 pub mod calls;
 pub mod decks;
 pub mod definition;
+pub mod delivery;
 pub mod edges;
 pub mod jobs;
 pub mod kernel;
@@ -20,3 +21,4 @@ pub mod report;
 pub mod row_runs;
 pub mod rows;
 pub mod same_steps;
+pub mod stored;
