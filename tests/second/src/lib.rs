@@ -2,13 +2,14 @@
 //! the kernel's C interface and the program `deck` beside it.
 //!
 //! The definition: `definition`, `polynomials`, `pair`, `model`. What is asked: `kernel`, `program`. The comparisons:
-//! `known`, `row_runs`, `edges`, `rows`, `jobs` with `calls`, `stored`, `decks`, `delivery`.
+//! `known`, `row_runs`, `edges`, `rows`, `jobs` with `calls`, `stored`, `decks`, `delivery`, `faults`.
 
 pub mod calls;
 pub mod decks;
 pub mod definition;
 pub mod delivery;
 pub mod edges;
+pub mod faults;
 pub mod jobs;
 pub mod kernel;
 pub mod known;

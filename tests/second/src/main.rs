@@ -1,6 +1,6 @@
 //! `second [CASES [SEED]]` compares the kernel with the definition; the seed is printed, and gives the same cases again.
 
-use second::{decks, delivery, edges, jobs, known, row_runs, rows, stored};
+use second::{decks, delivery, edges, faults, jobs, known, row_runs, rows, stored};
 use std::path::Path;
 
 fn main() {
@@ -26,6 +26,7 @@ fn main() {
         stored::compare(&stored),
         decks::compare(&deck, cases, seed),
         delivery::compare(&deck, &stored, cases / 20, seed),
+        faults::compare(&deck, &stored),
     ];
     let mut passed = 0;
     let mut failed = 0;
