@@ -1,12 +1,12 @@
 // The deck: records from standard input, a line for each answer to standard output.
 use decks::Deck;
-use decks::lines::end_line;
 use decks::records::body_length;
 use decks::records::fresh;
 use decks::steps::step;
 use libc::STDERR_FILENO;
 use libc::STDIN_FILENO;
 use libc::STDOUT_FILENO;
+use lines::end_line;
 ghost use Prim.Native.Nat.{_+_, _^_, _≤_, _<_};
 ghost use lib.ListN.{length};
 ghost use Rattle.decks.specs.State.{Fit};

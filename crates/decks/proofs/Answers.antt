@@ -29,11 +29,11 @@ use Rattle.job.specs.Standing.{Standing}
 use Rattle.job.specs.StandingLaws.{needed-fits}
 use Rattle.reads.specs.Read.{ReadSound}
 use Rattle.decks.specs.declared.Deck.{Deck}
-use Rattle.decks.specs.Text.{line, openWord, readWord}
-use Rattle.decks.specs.Line.{readText}
+use Rattle.lines.specs.Text.{line, openWord, readWord}
+use Rattle.lines.specs.Line.{readText}
 use Rattle.decks.specs.Deck.{tableA, tableB, opening, withJob, taken, lineOf, stops, readLine}
 use Rattle.decks.specs.State.{opening-stands}
-use Rattle.decks.specs.Buffer.{Begins}
+use Rattle.lines.specs.Buffer.{Begins}
 use Rattle.decks.specs.Step.{settled, Steps}
 use Rattle.decks.specs.AnswerLaws.{openLine-done, openLine-refused, reading-room, readLine-done, readLine-wanting, written-taken}
 

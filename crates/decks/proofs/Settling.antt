@@ -21,12 +21,12 @@ use Rattle.job.specs.Calls.{offerNumber, offered}
 use Rattle.job.specs.Standing.{Standing}
 use Rattle.scope.specs.Usable.{and-true}
 use Rattle.decks.specs.declared.Deck.{Deck}
-use Rattle.decks.specs.Text.{line, pointWord}
+use Rattle.lines.specs.Text.{line, pointWord}
 use Rattle.decks.specs.Deck.{known, bodyLength, byte, number4, inOrder, deckNumber, withModulus, withDegrees, withPlace, withJob, taken, pointLine, readLine, lineOf, stops}
 use Rattle.decks.specs.Refusal.{passed, whole-body, inside}
 use Rattle.decks.specs.State.{Fit}
-use Rattle.decks.specs.Buffer.{Begins}
-use Rattle.decks.specs.BufferLaws.{begins-none}
+use Rattle.lines.specs.Buffer.{Begins}
+use Rattle.lines.specs.BufferLaws.{begins-none}
 use Rattle.decks.specs.Step.{settled, Steps}
 
 -- where the last of four tests alone can hold

@@ -26,8 +26,8 @@ use Rattle.job.specs.Calls.{reading, wanted, written, degreeOf, isZero}
 use Rattle.job.specs.Public.{strictJob, zeroFlag}
 use Rattle.job.specs.Standing.{Standing}
 use Rattle.decks.specs.declared.Deck.{Deck}
-use Rattle.decks.specs.Text.{line, decimal, spaced, openWord, readWord}
-use Rattle.decks.specs.Line.{degreeText, readText}
+use Rattle.lines.specs.Text.{line, decimal, spaced, openWord, readWord}
+use Rattle.lines.specs.Line.{degreeText, readText}
 use Rattle.decks.specs.Deck.{opening, openLine, degreeWord, readLine, tableA, tableB}
 
 pub bound-kept : (j : Job) → Standing j → bound (pairOf j) ≡ j .n * j .da + j .m * j .db

@@ -24,7 +24,7 @@ use Rattle.job.specs.Job.{pairOf, blank}
 use Rattle.job.specs.Calls.{offerNumber, offered, reading, wanted, written, degreeOf, isZero}
 use Rattle.job.specs.Public.{strictNumber, strictJob}
 use Rattle.decks.specs.declared.Deck.{Deck}
-use Rattle.decks.specs.Text.{line, spaced, decimal, openWord, pointWord, readWord, deckWord, endWord}
+use Rattle.lines.specs.Text.{line, spaced, decimal, openWord, pointWord, readWord, deckWord, endWord}
 
 unfoldable pub known : ℕ → Bool
 known k = leb 1 k && leb k 6

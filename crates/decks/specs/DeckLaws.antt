@@ -19,7 +19,7 @@ use lib.Dec.{eqb}
 use lib.ListN.{length, take, drop, length-drop}
 use borrow.Author.Tests.{eqb-true, eq-eqb, ne-eqb, not-true}
 use Rattle.decks.specs.declared.Deck.{Deck}
-use Rattle.decks.specs.Text.{line, deckWord, endWord}
+use Rattle.lines.specs.Text.{line, deckWord, endWord}
 use Rattle.decks.specs.Deck.{bodyLength, deckNumber, opening, taken, lineOf, stops, Outcome, before, halted, from, fresh, deck}
 
 pub record Stepped : Type 0 where

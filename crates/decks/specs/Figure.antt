@@ -6,7 +6,7 @@ use Prim.Native.Nat.{ℕ}
 use mathlib.Core.List.{List, [], _∷_}
 use mathlib.Core.Path.{_≡_, refl}
 use Rattle.job.specs.Computing.{computing}
-use Rattle.decks.specs.Text.{digits, decimal, spaced, line, openWord, pointWord, readWord, deckWord, endWord}
+use Rattle.lines.specs.Text.{digits, decimal, spaced, line, openWord, pointWord, readWord, deckWord, endWord}
 use Rattle.decks.specs.Deck.{known, bodyLength, byte, number4, fresh, inOrder, astray, deckNumber, tableA, tableB, opening, withModulus, withDegrees, withPlace, withJob, taken, openLine, pointLine, degreeWord, readLine, lineOf, stops, before, halted, from, deck}
 
 abbrev pub k1Deck : List ℕ

@@ -4,7 +4,8 @@ use native.Mathlib.Omega.{arith}
 use mathlib.Core.Bool.{Bool, true, false, not, _||_}
 use mathlib.Core.Path.{_≡_, refl, sym, ap}
 use lib.Seq.{length-take-le}
-use Rattle.decks.specs.StepLaws.{begins-fits, body-low}
+use Rattle.lines.specs.BufferLaws.{begins-fits}
+use Rattle.decks.specs.StepLaws.{body-low}
 use borrow.Author.Needs.{needs}
 use Rattle.deck.proofs.advanced.Statement.{statement}
 use Rattle.deck.proofs.advanced.Tie as tie

@@ -1,7 +1,7 @@
 -- `deck::finished`: the line fits its buffer.
 use mathlib.Core.Path.{sym}
 use lib.Seq.{length-take-le}
-use Rattle.decks.specs.StepLaws.{begins-fits}
+use Rattle.lines.specs.BufferLaws.{begins-fits}
 use borrow.Author.Needs.{needs}
 use Rattle.deck.proofs.finished.Statement.{statement}
 use Rattle.deck.proofs.finished.Tie as tie
