@@ -1,10 +1,7 @@
 -- Laws of text laid into a buffer.
 --
---   laid-length      the buffer keeps its length
---   laid-on          text laid after text is their join, laid at once
 --   put-none         where nothing is laid
 --   put-one          one byte stored
---   put-length       what is put keeps the buffer's length
 --   put-on           what is put after what was put
 --   put-as           what is put, under another name
 --   put-part         where the first i bytes of a word are put
@@ -19,7 +16,7 @@ use mathlib.Core.Path.{_≡_, refl, sym, ap, subst, _∙_}
 use native.Mathlib.Nat.{add-zero, zero-add, add-assoc}
 use native.Mathlib.Numerals.{add-one}
 use native.Mathlib.Omega.{arith}
-use lib.ListN.{length, take, drop, set, getD, length-append, length-drop, take-append-drop}
+use lib.ListN.{length, take, drop, set, getD, length-append, take-append-drop}
 use lib.Seq.{length-take-le, take-at, drop-at, drop-drop, take-suc, take-all, set-split}
 use Rattle.lines.specs.Buffer.{laid, Put, Begins}
 
@@ -31,15 +28,8 @@ laid-split : (out : List ℕ) (at : ℕ) (s : List ℕ) → laid out at s ≡ (t
 unfolding laid
 laid-split out at s = sym (append-assoc (take at out) s (drop (at + length s) out))
 
-pub laid-length : (out : List ℕ) (at : ℕ) (s : List ℕ) → at + length s ≤ length out → length (laid out at s) ≡ length out
-laid-length out at s h =
-    ap length (laid-split out at s)
-    ∙ length-append (take at out ++ s) (drop (at + length s) out)
-    ∙ ap (λ (k : ℕ). k + length (drop (at + length s) out)) (front out at s h)
-    ∙ ap (λ (k : ℕ). at + length s + k) (length-drop (at + length s) out)
-    ∙ omega arith
-
-pub laid-on : (out : List ℕ) (at : ℕ) (s t : List ℕ) → at + length s ≤ length out → laid (laid out at s) (at + length s) t ≡ laid out at (s ++ t)
+-- text laid after text is their join, laid at once
+laid-on : (out : List ℕ) (at : ℕ) (s t : List ℕ) → at + length s ≤ length out → laid (laid out at s) (at + length s) t ≡ laid out at (s ++ t)
 unfolding laid
 laid-on out at s t h =
     let head : take (at + length s) (laid out at s) ≡ take at out ++ s =
@@ -72,16 +62,12 @@ put-one out at b h =
       next = refl;
     }
 
-module _ {out : List ℕ} {at : ℕ} {s mid : List ℕ} {k : ℕ} where
-  pub put-length : Put out at s mid k → at + length s ≤ length out → length mid ≡ length out
-  put-length first h = ap length (first .text) ∙ laid-length out at s h
-
-  pub put-on : {t after : List ℕ} {r : ℕ} → Put out at s mid k → Put mid k t after r → k ≤ length out → Put out at (s ++ t) after r
-  put-on {t} first then h =
-      record {
-        text = then .text ∙ ap (λ (l : List ℕ). laid l k t) (first .text) ∙ ap (λ (n : ℕ). laid (laid out at s) n t) (first .next) ∙ laid-on out at s t (omega (arith, first .next));
-        next = then .next ∙ ap (λ (n : ℕ). n + length t) (first .next) ∙ add-assoc at (length s) (length t) ∙ ap (λ (n : ℕ). at + n) (sym (length-append s t));
-      }
+pub put-on : {out s mid t after : List ℕ} {at k r : ℕ} → Put out at s mid k → Put mid k t after r → k ≤ length out → Put out at (s ++ t) after r
+put-on {out} {s} {t = t} {at = at} {k = k} first then h =
+    record {
+      text = then .text ∙ ap (λ (l : List ℕ). laid l k t) (first .text) ∙ ap (λ (n : ℕ). laid (laid out at s) n t) (first .next) ∙ laid-on out at s t (omega (arith, first .next));
+      next = then .next ∙ ap (λ (n : ℕ). n + length t) (first .next) ∙ add-assoc at (length s) (length t) ∙ ap (λ (n : ℕ). at + n) (sym (length-append s t));
+    }
 
 pub put-as : {out s t after : List ℕ} {at r : ℕ} → s ≡ t → Put out at s after r → Put out at t after r
 put-as {out} {after = after} {at = at} {r = r} e p = subst (λ (l : List ℕ). Put out at l after r) e p

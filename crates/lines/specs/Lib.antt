@@ -5,5 +5,6 @@ pub mod Line
 pub mod Buffer
 -- laws
 pub mod TextLaws
+pub mod Decimal
 pub mod BufferLaws
 pub mod LineLaws

@@ -1,22 +1,26 @@
 -- Lines of text, as lists of bytes.
 --
---   decimal n         the decimal digits of n, highest first
---   spaced ns         each number after a space
---   openWord ..       the words that lines begin with
---   line word ns      the word, the numbers each after a space, a newline
+--   digits fuel n found     the decimal digits of n before those found, highest first, where the fuel is above n
+--   decimal n               the decimal digits of n
+--   spaced ns               each number after a space
+--   openWord                the words that lines begin with: open,
+--   pointWord               point,
+--   readWord                read,
+--   deckWord                deck,
+--   endWord                 end
+--   line word ns            the word, the numbers each after a space, a newline
 use Prim.Native.Nat.{ℕ, zero, suc, _+_, _/_, _%_}
-use mathlib.Core.Bool.{Bool, cond}
+use mathlib.Core.Bool.{cond}
 use mathlib.Core.List.{List, [], _∷_, _++_}
 use lib.Dec.{ltb}
 
--- with room for `fuel` digits before those found
 unfoldable pub digits : ℕ → ℕ → List ℕ → List ℕ
 digits zero n found = found
 digits (suc fuel) n found =
     let more = digits fuel (n / 10) ((48 + n % 10) ∷ found) in cond (ltb n 10) ((48 + n) ∷ found) more
 
 unfoldable pub decimal : ℕ → List ℕ
-decimal n = digits 20 n []
+decimal n = digits (suc n) n []
 
 unfoldable pub spaced : List ℕ → List ℕ
 spaced [] = []

@@ -1,12 +1,12 @@
 -- Laws of decimal digits and of lines.
 --
---   decimal-digit     a number below ten is one digit
---   decimal-step      any other is the digits of its tenth part, and one more
---   decimal-digit-length, decimal-step-length     how many that makes
---   decimal-width     a number below 10^k has at most k digits, for k above 0
---   digits20, digits10      so 20 for 64 bits, and 10 for 32
---   spaced-on         numbers after numbers
---   spaced-one        one number after a space
+--   decimal-digit            a number below ten is one digit
+--   decimal-step             any other is the digits of its tenth part, and one more
+--   decimal-digit-length     how many that makes: one,
+--   decimal-step-length      and one more
+--   digits20, digits10       20 at most for 64 bits, and 10 for 32
+--   spaced-on                numbers after numbers
+--   spaced-one               one number after a space
 use Prim.Native.Nat.{ℕ, zero, suc, _+_, _^_, _/_, _%_, _≤_, _<_}
 use mathlib.Core.List.{List, [], _∷_, _++_, append-assoc, append-nil}
 use mathlib.Core.Logic.{_⊎_, inl, inr, ⊎-elim}
@@ -43,38 +43,35 @@ digits-found (suc fuel) n found =
     ∙ ap (λ (l : List ℕ). l ++ found) (sym (digits-found fuel (n / 10) ((48 + n % 10) ∷ [])) ∙ sym (digits-more fuel n [] h)))
     (few n)
 
--- a tenth part has one digit less
-tenth : (k n : ℕ) → n < 10 ^ suc k → n / 10 < 10 ^ k
-tenth k n h = omega (arith, pow-suc 10 k)
-
--- more room than a number has digits changes nothing
-digits-enough : (k n : ℕ) (found : List ℕ) → n < 10 ^ suc k → digits (suc k) n found ≡ digits (suc (suc k)) n found
-digits-enough zero n found h = digits-last zero n found h ∙ sym (digits-last 1 n found h)
-digits-enough (suc k) n found h =
+-- more fuel than is needed changes nothing
+digits-fuel : (f g n : ℕ) (found : List ℕ) → n < f → n < g → digits f n found ≡ digits g n found
+digits-fuel zero g n found a b = absurd (omega arith)
+digits-fuel (suc f) zero n found a b = absurd (omega arith)
+digits-fuel (suc f) (suc g) n found a b =
     ⊎-elim
-    (λ l. digits-last (suc k) n found l ∙ sym (digits-last (suc (suc k)) n found l))
+    (λ l. digits-last f n found l ∙ sym (digits-last g n found l))
     (λ l.
-    digits-more (suc k) n found l
-    ∙ digits-enough k (n / 10) ((48 + n % 10) ∷ found) (tenth (suc k) n h)
-    ∙ sym (digits-more (suc (suc k)) n found l))
+    digits-more f n found l
+    ∙ digits-fuel f g (n / 10) ((48 + n % 10) ∷ found) (omega arith) (omega arith)
+    ∙ sym (digits-more g n found l))
     (few n)
 
 pub decimal-digit : (n : ℕ) → n < 10 → decimal n ≡ (48 + n) ∷ []
 unfolding decimal
-decimal-digit n h = digits-last 19 n [] h
+decimal-digit n h = digits-last n n [] h
 
-pub decimal-step : (n : ℕ) → 10 ≤ n → n < 10 ^ 20 → decimal n ≡ decimal (n / 10) ++ ((48 + n % 10) ∷ [])
+pub decimal-step : (n : ℕ) → 10 ≤ n → decimal n ≡ decimal (n / 10) ++ ((48 + n % 10) ∷ [])
 unfolding decimal
-decimal-step n h b =
-    digits-more 19 n [] h
-    ∙ digits-found 19 (n / 10) ((48 + n % 10) ∷ [])
-    ∙ ap (λ (l : List ℕ). l ++ ((48 + n % 10) ∷ [])) (digits-enough 18 (n / 10) [] (tenth 19 n b))
+decimal-step n h =
+    digits-more n n [] h
+    ∙ digits-found n (n / 10) ((48 + n % 10) ∷ [])
+    ∙ ap (λ (l : List ℕ). l ++ ((48 + n % 10) ∷ [])) (digits-fuel n (suc (n / 10)) (n / 10) [] (omega arith) (omega arith))
 
 pub decimal-digit-length : (n : ℕ) → n < 10 → length (decimal n) ≡ 1
 decimal-digit-length n h = ap length (decimal-digit n h)
 
-pub decimal-step-length : (n : ℕ) → 10 ≤ n → n < 10 ^ 20 → length (decimal n) ≡ length (decimal (n / 10)) + 1
-decimal-step-length n h b = ap length (decimal-step n h b) ∙ length-append (decimal (n / 10)) ((48 + n % 10) ∷ [])
+pub decimal-step-length : (n : ℕ) → 10 ≤ n → length (decimal n) ≡ length (decimal (n / 10)) + 1
+decimal-step-length n h = ap length (decimal-step n h) ∙ length-append (decimal (n / 10)) ((48 + n % 10) ∷ [])
 
 digits-width : (fuel k n : ℕ) (found : List ℕ) → n < 10 ^ suc k → length (digits fuel n found) ≤ suc k + length found
 unfolding digits
@@ -83,12 +80,13 @@ digits-width (suc fuel) zero n found h = rw (digits-last fuel n found h) (omega 
 digits-width (suc fuel) (suc k) n found h =
     ⊎-elim
     (λ l. rw (digits-last fuel n found l) (omega arith))
-    (λ l. rw (digits-more fuel n found l) (omega (arith, digits-width fuel k (n / 10) ((48 + n % 10) ∷ found) (tenth (suc k) n h))))
+    (λ l. rw (digits-more fuel n found l) (omega (arith, digits-width fuel k (n / 10) ((48 + n % 10) ∷ found) (omega (arith, pow-suc 10 (suc k))))))
     (few n)
 
-pub decimal-width : (k n : ℕ) → n < 10 ^ suc k → length (decimal n) ≤ suc k
+-- a number below 10^(k+1) has at most k + 1 digits
+decimal-width : (k n : ℕ) → n < 10 ^ suc k → length (decimal n) ≤ suc k
 unfolding decimal
-decimal-width k n h = omega (arith, digits-width 20 k n [] h)
+decimal-width k n h = omega (arith, digits-width (suc n) k n [] h)
 
 pub digits20 : (n : ℕ) → n < 2 ^ 64 → length (decimal n) ≤ 20
 digits20 n h = decimal-width 19 n (omega arith)

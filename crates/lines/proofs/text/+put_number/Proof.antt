@@ -77,7 +77,7 @@ put-number-put-number-requires : (t : ℕ) → put-number-lts.Need-put-number-re
 ) (put-number-at t) put-number.Post
 put-number-put-number-requires t c κs =
     let n = c .before .before .before .args .n in
-    omega (arith, decimal-step-length n (omega arith) (omega arith))
+    omega (arith, decimal-step-length n (omega arith))
 
 put-number-cast-put-byte-2 : (t : ℕ) → put-number-lts.Need-cast-put-byte-2 (
   put-byte-reads.Asked,
@@ -103,7 +103,7 @@ put-number-put-byte-requires-2 : (t : ℕ) → put-number-lts.Need-put-byte-requ
 ) (put-number-at t) put-number.Post
 put-number-put-byte-requires-2 t c κs =
     let n = c .before .before .before .before .before .before .before .args .n in
-    omega (arith, decimal-step-length n (omega arith) (omega arith))
+    omega (arith, decimal-step-length n (omega arith))
 
 put-number-same-length-2 : (t : ℕ) → put-number-lts.Need-same-length-2 (
   put-byte-reads.Asked,
@@ -121,9 +121,9 @@ put-number-returns-2 : (t : ℕ) → put-number-lts.Need-returns-2 (
 ) (put-number-at t) put-number.Post
 put-number-returns-2 t c =
     let n = c .before .before .before .before .before .before .before .before .before .before .args .n in
-    put-as (sym (decimal-step n (omega arith) (omega arith)))
+    put-as (sym (decimal-step n (omega arith)))
     (put-on (c .before .before .before .before .before .before .put-number .ensures) (c .before .before .put-byte2 .ensures)
-    (omega (arith, decimal-step-length n (omega arith) (omega arith))))
+    (omega (arith, decimal-step-length n (omega arith))))
 
 pub +put-number-spec : {M : Type 1} → statement M
 +put-number-spec = close μ-put-number λ t. put-number-lts.spec (
