@@ -6,6 +6,7 @@ pub mod Step
 -- laws
 pub mod Refusal
 pub mod State
+pub mod OpeningLaws
 pub mod AnswerLaws
 pub mod DeckLaws
 pub mod StepLaws
