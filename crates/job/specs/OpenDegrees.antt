@@ -1,7 +1,8 @@
 -- The job does not know the declared degrees in y: two openings that differ only in those, and in the tables that go with
 -- them, are answered alike.
 --
---   SameTable m e e′ s s′     s has degrees m and e, and s′ has m and e′, with the same coefficients
+--   SameTable m e e′ s s′     s is a table of degrees m and e, and s′ of m and e′ (in y 16 at most), with the same
+--                             coefficients
 --   strict-degrees            the strict opening: one number and one job, accepted or refused
 --   open-degrees              the public opening: the same
 use Prim.Native.Nat.{ℕ, _+_, _/_, _%_, _≤_, _<_}
