@@ -17,10 +17,10 @@ use mathlib.Core.List.{List, [], _∷_, _++_}
 use mathlib.Core.Path.{_≡_}
 use lib.ListN.{take}
 use Rattle.decks.specs.declared.Deck.{Deck}
-use Rattle.decks.specs.Text.{line, endWord}
+use Rattle.lines.specs.Text.{line, endWord}
 use Rattle.decks.specs.Deck.{bodyLength, fresh}
 use Rattle.decks.specs.DeckLaws.{Stepped, stepped}
-use Rattle.decks.specs.Buffer.{Begins}
+use Rattle.lines.specs.Buffer.{Begins}
 use Rattle.stream.specs.declared.Arrival.{Arrival}
 use Rattle.stream.specs.Arrival.{Arrives}
 use Rattle.deck.specs.declared.Run.{Run}

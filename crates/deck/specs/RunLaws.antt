@@ -22,10 +22,10 @@ use lib.ListN.{length, take, drop, length-append}
 use lib.Seq.{length-take-le, take-all, take-append-seam, drop-append-seam}
 use Rattle.decks.specs.declared.Deck.{Deck}
 use Rattle.decks.specs.declared.Step.{Step}
-use Rattle.decks.specs.Text.{line, endWord}
+use Rattle.lines.specs.Text.{line, endWord}
 use Rattle.decks.specs.Deck.{bodyLength, deckNumber, Outcome, before, halted, deck, fresh}
 use Rattle.decks.specs.DeckLaws.{Stepped, stepped, stepped-refused, follow, stepping, deck-stepping}
-use Rattle.decks.specs.Buffer.{Begins}
+use Rattle.lines.specs.Buffer.{Begins}
 use Rattle.decks.specs.Refusal.{passed, whole-body}
 use Rattle.decks.specs.State.{Fit}
 use Rattle.decks.specs.Step.{Steps}

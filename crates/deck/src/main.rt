@@ -1,9 +1,9 @@
 // The deck: records from standard input, a line for each answer to standard output.
 use decks::Deck;
-use decks::lines::end_line;
 use decks::records::body_length;
 use decks::records::fresh;
 use decks::steps::step;
+use lines::end_line;
 use stream::Arrival;
 use stream::complain;
 use stream::next_record;

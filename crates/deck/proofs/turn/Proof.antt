@@ -1,7 +1,7 @@
 -- `deck::turn`: the line that is printed is the one that the arrival's taking laid into the buffer.
 use mathlib.Core.Path.{sym}
 use lib.Seq.{length-take-le}
-use Rattle.decks.specs.StepLaws.{begins-fits}
+use Rattle.lines.specs.BufferLaws.{begins-fits}
 use borrow.Author.Needs.{needs}
 use Rattle.deck.proofs.turn.Statement.{statement}
 use Rattle.deck.proofs.turn.Tie as tie
