@@ -66,7 +66,7 @@ told-fit d offset a fit = go (a .failed) (a .found)
   where
     go : (f n : Bool)
         → Fit ((cond f (record { state = d; text = []; halt = true })
-          (cond n (stepped d (a .kind) (take (a .count) (a .body)) offset) (record { state = d; text = line endWord []; halt = true }))) .state)
+        (cond n (stepped d (a .kind) (take (a .count) (a .body)) offset) (record { state = d; text = line endWord []; halt = true }))) .state)
     go true n = fit
     go false true = stepped-fit d (a .kind) (take (a .count) (a .body)) offset fit
     go false false = fit
@@ -245,26 +245,26 @@ turns-stepping (a ∷ xs) (suc fuel) w v (_, r, t) h g (read, u) l = by-found (a
     by-halt n ih true q =
         let bare : body ++ delivered [] ≡ body = unfold delivered in append-nil body in
         let cut : take (bodyLength (a .kind)) (body ++ delivered []) ≡ body =
-            ap (take (bodyLength (a .kind))) bare ∙ take-all (bodyLength (a .kind)) body (omega (arith, held, r .few)) in
+        ap (take (bodyLength (a .kind))) bare ∙ take-all (bodyLength (a .kind)) body (omega (arith, held, r .few)) in
         stop-same w a xs v s _ t (told-record (w .state) (w .offset) a read n) q
         (λ none. ap (stepping (suc fuel) (w .offset) (w .state)) (delivered-record a xs n ∙ ap (λ (xs : List Arrival). a .kind ∷ (body ++ delivered xs)) none)
-            ∙ stepping-stop fuel (w .offset) (w .state) (a .kind) body (delivered []) cut q)
+        ∙ stepping-stop fuel (w .offset) (w .state) (a .kind) body (delivered []) cut q)
     by-halt n ih false q =
         let told-s = told-record (w .state) (w .offset) a read n in
         let whole : length body ≡ bodyLength (a .kind) = omega (arith, held, r .few, going-whole (w .state) (a .kind) body (w .offset) q) in
         let cut : take (bodyLength (a .kind)) (body ++ delivered xs) ≡ body =
-            ap (λ (k : ℕ). take k (body ++ delivered xs)) (sym whole) ∙ take-append-seam body (delivered xs) in
+        ap (λ (k : ℕ). take k (body ++ delivered xs)) (sym whole) ∙ take-append-seam body (delivered xs) in
         let left : drop (bodyLength (a .kind)) (body ++ delivered xs) ≡ delivered xs =
-            ap (λ (k : ℕ). drop k (body ++ delivered xs)) (sym whole) ∙ drop-append-seam body (delivered xs) in
+        ap (λ (k : ℕ). drop k (body ++ delivered xs)) (sym whole) ∙ drop-append-seam body (delivered xs) in
         let next : w .offset + 1 + bodyLength (a .kind) ≡ on w a .offset = unfold on in omega (arith, past-record (w .state) (w .offset) a read n) in
         let state : s .state ≡ on w a .state = unfold on in sym (ap (λ (s : Stepped). s .state) told-s) in
         let going : on w a .halt ≡ false = unfold on in ap (λ (s : Stepped). s .halt) told-s ∙ q in
         on-same w a v s (stepping (suc fuel) (w .offset) (w .state) (delivered (a ∷ xs))) (stepping fuel (on w a .offset) (on w a .state) (delivered xs)) told-s
         (ap (stepping (suc fuel) (w .offset) (w .state)) (delivered-record a xs n)
-            ∙ stepping-on fuel (w .offset) (w .state) (a .kind) body (delivered xs) cut q left
-            ∙ ap₂ (λ (o : ℕ) (d : Deck). before (s .text) (stepping fuel o d (delivered xs))) next state)
+        ∙ stepping-on fuel (w .offset) (w .state) (a .kind) body (delivered xs) cut q left
+        ∙ ap₂ (λ (o : ℕ) (d : Deck). before (s .text) (stepping fuel o d (delivered xs))) next state)
         (ih fuel (on w a) v t h going u
-            (omega (arith, l, ap length (delivered-record a xs n), length-append body (delivered xs))))
+        (omega (arith, l, ap length (delivered-record a xs n), length-append body (delivered xs))))
 
     by-found : (n : Bool) → a .found ≡ n → Rest → Goal
     by-found false n ih =
