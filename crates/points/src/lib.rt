@@ -15,7 +15,6 @@ ghost use Rattle.scope.specs.Pair.{term, tables, some, occurs, largest};
 ghost use Rattle.scope.specs.Point.{tabulate, rowAt, usable, usables};
 ghost use Rattle.scope.specs.Recovery.{Different};
 ghost use Rattle.points.specs.Table.{Table};
-ghost use Rattle.points.specs.Usables.{NextUsable};
 ghost use Rattle.points.specs.Step.{valueOf, weightOf, plusMultiple, timesLinear};
 
 // a * b + c modulo p, with one remainder
