@@ -3,7 +3,8 @@
 --
 --   degree-most             the true degree is at most the declared one
 --   determinant-swap        swapping a and b multiplies by (-1)^(mn)
---   determinant-fall        b falls to degree k: a_m^(n-k) times the determinant of a and the trimmed b
+--   determinant-fall-right  b falls to degree k: a_m^(n-k) times the determinant of a and the trimmed b
+--   determinant-fall-left   a falls to degree k: (-1)^(n(m-k)) b_n^(m-k) times the determinant of the trimmed a and b
 --   determinant-constant    m = 0: a_0^n, whatever b is
 --   determinant-vanish      b is all zero and m > 0: 0
 --   determinant-both        both leading entries are 0 and m + n > 0: 0
@@ -18,7 +19,7 @@ use Rattle.ring.specs.Ring.{Ring, pow, sign}
 use Rattle.ring.specs.RingLaws.{⊗-zero}
 use Rattle.residue.specs.Residue.{residues, res, res-zero}
 use Rattle.sylvester.specs.Sylvester.{resultant}
-use Rattle.sylvester.specs.Laws.{resultant-ext, resultant-const-left, resultant-const-both, resultant-swap, resultant-drop-both, resultant-fall-right, resultant-zero-left}
+use Rattle.sylvester.specs.Laws.{resultant-ext, resultant-const-left, resultant-const-both, resultant-swap, resultant-drop-both, resultant-fall-right, resultant-fall-left, resultant-zero-left}
 use Rattle.euclid.specs.Row.{coef, trim, declared, degree, rowDeterminant}
 use Rattle.euclid.specs.RowLaws.{Ended, coef-out, trim-coef, trim-length, trim-ended, declared-length, declared-least}
 
@@ -30,6 +31,15 @@ degree-most r = by-end (trim-ended r)
     by-end (inl e) = rw e (omega arith)
     by-end (inr h) = omega (arith, declared-length (trim r) (h .0), trim-length r, declared-least r)
 
+-- the declared degree, by how far the row falls
+fallen-from : (r : List ℕ) → declared r ≡ degree r + (declared r - degree r)
+fallen-from r = omega (arith, degree-most r)
+
+-- past the true degree the coefficients are 𝟘
+above-degree : (p : ℕ) (r : List ℕ) (j : ℕ) → degree r < j → coef p r j ≡ Ring.𝟘 (residues p)
+unfolding degree
+above-degree p r j l = sym (trim-coef p r j) ∙ coef-out p (trim r) j (omega (arith, declared-least (trim r)))
+
 module _ (p : ℕ) (a b : List ℕ) where
   open Ring (residues p) using (C, _⊗_, 𝟘, 𝟙)
 
@@ -37,19 +47,23 @@ module _ (p : ℕ) (a b : List ℕ) where
   unfolding rowDeterminant
   determinant-swap = resultant-swap (residues p) (declared a) (declared b) (coef p a) (coef p b)
 
-  pub determinant-fall : rowDeterminant p a b ≡ pow (residues p) (coef p a (declared a)) (declared b - degree b) ⊗ rowDeterminant p a (trim b)
+  pub determinant-fall-right : rowDeterminant p a b
+      ≡ pow (residues p) (coef p a (declared a)) (declared b - degree b) ⊗ rowDeterminant p a (trim b)
   unfolding rowDeterminant degree
-  determinant-fall =
-      ap (λ (n : ℕ). resultant (residues p) (declared a) n (coef p a) (coef p b)) places
-      ∙ resultant-fall-right (residues p) (degree b) (declared b - degree b) (declared a) (coef p a) (coef p b) (λ j l _. gone j l)
+  determinant-fall-right =
+      ap (λ (n : ℕ). resultant (residues p) (declared a) n (coef p a) (coef p b)) (fallen-from b)
+      ∙ resultant-fall-right (residues p) (degree b) (declared b - degree b) (declared a) (coef p a) (coef p b) (λ j l _. above-degree p b j l)
       ∙ ap (λ (x : C). pow (residues p) (coef p a (declared a)) (declared b - degree b) ⊗ x)
       (resultant-ext (residues p) (declared a) (degree b) (coef p a) (coef p a) (coef p b) (coef p (trim b)) (λ j _. refl) (λ j _. sym (trim-coef p b j)))
-    where
-      places : declared b ≡ degree b + (declared b - degree b)
-      places = omega (arith, degree-most b)
 
-      gone : (j : ℕ) → degree b < j → coef p b j ≡ 𝟘
-      gone j l = sym (trim-coef p b j) ∙ coef-out p (trim b) j (omega (arith, declared-least (trim b)))
+  pub determinant-fall-left : rowDeterminant p a b
+      ≡ (sign (residues p) (declared b * (declared a - degree a)) ⊗ pow (residues p) (coef p b (declared b)) (declared a - degree a)) ⊗ rowDeterminant p (trim a) b
+  unfolding rowDeterminant degree
+  determinant-fall-left =
+      ap (λ (m : ℕ). resultant (residues p) m (declared b) (coef p a) (coef p b)) (fallen-from a)
+      ∙ resultant-fall-left (residues p) (degree a) (declared a - degree a) (declared b) (coef p a) (coef p b) (λ j l _. above-degree p a j l)
+      ∙ ap (λ (x : C). (sign (residues p) (declared b * (declared a - degree a)) ⊗ pow (residues p) (coef p b (declared b)) (declared a - degree a)) ⊗ x)
+      (resultant-ext (residues p) (degree a) (declared b) (coef p a) (coef p (trim a)) (coef p b) (coef p b) (λ j _. sym (trim-coef p a j)) (λ j _. refl))
 
   pub determinant-constant : declared a ≡ 0 → rowDeterminant p a b ≡ pow (residues p) (coef p a (declared a)) (declared b)
   unfolding rowDeterminant

@@ -21,7 +21,7 @@ use Rattle.residue.specs.Residue.{residues, res, val, res-val, val-𝟘, val-�
 use Rattle.residue.specs.Computed.{product-res}
 use Rattle.euclid.specs.Row.{coef, trim, declared, degree, rowDeterminant}
 use Rattle.euclid.specs.RowLaws.{Ended, trim-below, trim-ended, trim-length}
-use Rattle.euclid.specs.FallLaws.{determinant-swap, determinant-fall, determinant-constant, determinant-vanish, determinant-both, determinant-one}
+use Rattle.euclid.specs.FallLaws.{determinant-swap, determinant-fall-right, determinant-constant, determinant-vanish, determinant-both, determinant-one}
 use Rattle.euclid.specs.Sequence.{rowResultant}
 use Rattle.euclid.specs.SequenceLaws.{rowResultant-right}
 use Rattle.rows.specs.Given.{IsRow, IsDeclared}
@@ -33,11 +33,11 @@ use Rattle.rows.proofs.Value.{val-is}
 pub ended-row : {p : ℕ} {r : List ℕ} → IsDeclared p r → getD r (length r - 1) 0 ≢ 0 → IsRow p r
 ended-row {p} {r} h lead = record { ended = (h .some, rw (declared-minus r) at lead); below = h .below; short = h .short }
 
+pub plain-value : (p : ℕ) → 2 ≤ p → Prime p → (u w : List ℕ) → IsRow p u → IsRow p w → rowResultant p u w ≡ rowDeterminant p u w
+plain-value p two prime u w hu hw = rowResultant-right p two prime u w (hu .ended) (hu .below) (hw .ended) (hw .below)
+
 module _ (p : ℕ) (two : 2 ≤ p) (u w : List ℕ) where
   open Ring (residues p) using (C, _⊗_)
-
-  pub plain-value : Prime p → IsRow p u → IsRow p w → rowResultant p u w ≡ rowDeterminant p u w
-  plain-value prime hu hw = rowResultant-right p two prime u w (hu .ended) (hu .below) (hw .ended) (hw .below)
 
   pub swap-value : {x r : ℕ} → x ≡ val p (rowDeterminant p w u) → r < p → res p r ≡ sign (residues p) ((length u - 1) * (length w - 1)) ⊗ res p x
       → r ≡ val p (rowDeterminant p u w)
@@ -87,13 +87,10 @@ module _ (p : ℕ) (two : 2 ≤ p) (u w : List ℕ) where
         val-is p (rw er (mod-lt (high * x) (omega arith)))
         (product-res p (omega arith) high x er
         ∙ ap₂ _⊗_ (eh ∙ power-is falls) (ap (res p) ex ∙ res-val p _ ∙ plain)
-        ∙ sym (determinant-fall p u w))
+        ∙ sym (determinant-fall-right p u w))
       where
         falls : length w - 1 - (len - 1) ≡ declared w - degree w
         falls = omega (arith, declared-minus w, declared-minus (trim w))
 
         plain : rowResultant p u (take len w) ≡ rowDeterminant p u (trim w)
-        plain =
-            let row = true-row hw some in
-            rowResultant-right p two prime u (take len w) (hu .ended) (hu .below) (row .ended) (row .below)
-            ∙ ap (rowDeterminant p u) (trim-front w long)
+        plain = plain-value p two prime u (take len w) hu (true-row hw some) ∙ ap (rowDeterminant p u) (trim-front w long)

@@ -43,7 +43,7 @@ returns : tie.Need-returns
 returns c =
     let start = c .before .before .before .before .before .before .before .before .before .before .before .before .before in
     c .before .before .before .before .resultant-in .ensures .0
-    ∙ ap (val (start .args .p)) (plain-value (start .args .p) (start .pre .0) (start .args .u .now) (start .args .w .now) (start .pre .1 .0) (ended-row (start .pre .1 .1 .0) (c .before .before .before .before .before .before .before .before .before .if1 .taken)) (ended-row (start .pre .1 .1 .1) (c .before .before .before .before .before .before .before .if2 .taken)))
+    ∙ ap (val (start .args .p)) (plain-value (start .args .p) (start .pre .0) (start .pre .1 .0) (start .args .u .now) (start .args .w .now) (ended-row (start .pre .1 .1 .0) (c .before .before .before .before .before .before .before .before .before .if1 .taken)) (ended-row (start .pre .1 .1 .1) (c .before .before .before .before .before .before .before .if2 .taken)))
 
 fallen-requires : tie.Need-fallen-requires
 fallen-requires c κs =
