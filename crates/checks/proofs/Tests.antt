@@ -12,7 +12,7 @@
 --   zeros-all           every entry is passed
 --   last-none           a row with no entry is unended
 --   last-place          of any other row the last entry decides
---   degrees-length      a row that is not refused is one entry longer than its declared degree
+--   degrees-length      of rows that are not refused, m + n > 6 where they have more than 8 entries together
 --   prime-test          a test that says true of exactly the primes is prime?
 use Prim.Native.Nat.{ℕ, _+_, _*_, _-_, _≤_, _<_}
 use native.Mathlib.Nat.{add-mul, one-mul}
@@ -23,8 +23,8 @@ use mathlib.Core.Bool.{Bool, true, false, cond, not}
 use mathlib.Core.List.{List}
 use mathlib.Core.Logic.{_↔_}
 use mathlib.Core.Path.{_≡_, refl, sym, ap, _∙_}
-use borrow.Author.Tests.{le-leb, lt-leb, eq-eqb, ne-eqb}
-use lib.Dec.{eqb}
+use borrow.Author.Tests.{lt-ltb, le-ltb, le-leb, lt-leb, eq-eqb, ne-eqb}
+use lib.Dec.{eqb, ltb}
 use lib.ListN.{length, getD, drop, drop-of-length-le, List·getD-eq-default}
 use lib.Seq.{drop-cons}
 use Rattle.residue.specs.Prime.{Prime, prime?, prime?-right, prime?-all}
@@ -106,8 +106,15 @@ pub last-place : (r : List ℕ) → 0 < length r → eqb (getD r (length r - 1) 
 unfolding unended
 last-place r h = let same : length r - 1 ≡ declared r = omega (arith, declared-length r h) in ap (λ (k : ℕ). eqb (getD r k 0) 0) same
 
-pub degrees-length : {p : ℕ} {a b : List ℕ} → RowFacts p a b → declared a + declared b ≡ (length a - 1) + (length b - 1)
-degrees-length {a = a} {b = b} facts = omega (arith, declared-length a (facts .endedA .0), declared-length b (facts .endedB .0))
+pub degrees-length : {p : ℕ} {a b : List ℕ} → RowFacts p a b → ltb 6 (declared a + declared b) ≡ ltb 8 (length a + length b)
+degrees-length {a = a} {b = b} facts = by-size (decLt 6 (declared a + declared b))
+  where
+    whole : length a + length b ≡ declared a + declared b + 2
+    whole = omega (arith, declared-length a (facts .endedA .0), declared-length b (facts .endedB .0))
+
+    by-size : Dec (6 < declared a + declared b) → ltb 6 (declared a + declared b) ≡ ltb 8 (length a + length b)
+    by-size (yes l) = lt-ltb 6 _ l ∙ sym (lt-ltb 8 (length a + length b) (omega (arith, whole)))
+    by-size (no l) = le-ltb 6 (declared a + declared b) (omega arith) ∙ sym (le-ltb 8 (length a + length b) (omega (arith, whole)))
 
 pub prime-test : (p : ℕ) (t : Bool) → (t ≡ true) ↔ Prime p → not t ≡ composite p
 unfolding composite

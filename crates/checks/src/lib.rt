@@ -183,15 +183,16 @@ pub fn row_number(p: u32, a: &[u32], b: &[u32]) -> u32
     entries_number(p, a, b)
 }
 
-// The plain determinant: the same, then 17
+// The plain determinant: the same, then 17. Rows of degrees m and n have m + n + 2 entries.
 pub fn plain_number(p: u32, a: &[u32], b: &[u32]) -> u32
     ensures { λ r. ⌜ r ≡ Number.plainNumber p (now (a .entry)) (now (b .entry)) ⌝ }
 {
     let row = row_number(p, a, b);
+    let high = 8 < a.len() + b.len();
     if row != 0 {
         return row;
     }
-    if 6 < (a.len() - 1) + (b.len() - 1) {
+    if high {
         return 17;
     }
     0

@@ -1,22 +1,20 @@
 // The deck: records from standard input, a line for each answer to standard output.
 use decks::Deck;
-use decks::lines::end_line;
 use decks::records::body_length;
 use decks::records::fresh;
 use decks::steps::step;
-use libc::STDERR_FILENO;
-use libc::STDIN_FILENO;
-use libc::STDOUT_FILENO;
+use lines::end_line;
+use stream::Arrival;
+use stream::complain;
+use stream::next_record;
+use stream::print;
 ghost use Prim.Native.Nat.{_+_, _^_, _≤_, _<_};
 ghost use lib.ListN.{length};
+ghost use mathlib.Core.Bool.{true};
+ghost use mathlib.Core.Path.{_≡_};
 ghost use Rattle.decks.specs.State.{Fit};
-ghost use Rattle.deck.specs.Run.{Onward, Advanced};
-
-// What reading brought: how many bytes, and whether a read failed.
-struct Arrival {
-    count: usize,
-    failed: bool,
-}
+ghost use Rattle.stream.specs.Arrival.{Arrives};
+ghost use Rattle.deck.specs.Run.{Goes, Turned, Ran};
 
 // Where a run stands: the state, the place of the next record, and whether it has stopped.
 struct Run {
@@ -25,142 +23,93 @@ struct Run {
     halt: bool,
 }
 
-// A message on standard error.
-fn complain(message: &[u8]) {
-    io::write_all(STDERR_FILENO, message);
+// The run after an arrival, and how long the line at the start of the buffer is.
+struct Going {
+    run: Run,
+    length: usize,
 }
 
-// No run that a machine can finish comes here.
-fn exhausted() {
-    complain(b"deck: too many records\n");
+// A turn: what arrived, where the run stands after it, and whether the line was written.
+struct Progress {
+    run: Run,
+    arrival: Arrival,
+    length: usize,
+    written: bool,
 }
 
-// A line on standard output: whether it was written.
-fn print(line: &[u8]) -> bool {
-    if io::write_all(STDOUT_FILENO, line) {
-        return true;
-    }
-    complain(b"deck: writing failed\n");
-    false
+// Where a run ended: with a failed read, a failed write, all its turns spent, or as the deck says.
+struct Ending {
+    run: Run,
+    unread: bool,
+    unwritten: bool,
+    spent: bool,
 }
 
-// One read: how many bytes came, none at the end of input.
-fn read_some(part: &mut [u8]) -> Arrival
-    ensures { λ r. ⌜ r .count ≤ length (now (part .entry)) ⌝ }
+// The run as it stands, stopped, with a line of this length.
+fn stopped(run: Run, length: usize) -> Going
+    ensures { λ r. ⌜ r ≡ record { run = record { state = run .state; offset = run .offset; halt = true }; length = length } ⌝ }
 {
-    let got = libc::read(STDIN_FILENO, part);
-    let count = io::count(got, part);
-    Arrival {
-        count,
-        failed: got < 0,
-    }
+    let mut last = run;
+    last.halt = true;
+    Going { run: last, length }
 }
 
-// The body of a record: until `need` bytes came, the input ends or a read fails.
-fn read_body(body: &mut [u8], need: usize) -> Arrival
-    requires { ⌜ need ≤ length (now body) ⌝ }
-    ensures { λ r. ⌜ r .count ≤ need ⌝ }
-{
-    let mut count = 0;
-    while count < need {
-        let more = read_some(&mut body[count..need]);
-        if more.count == 0 {
-            return Arrival {
-                count,
-                failed: more.failed,
-            };
-        }
-        count += more.count;
-    }
-    Arrival {
-        count,
-        failed: false,
-    }
-}
-
-// The run stops here.
-fn stopped(run: Run) -> Run
-    requires { ⌜ Fit (run .state) ⌝ }
-    ensures { λ r. ⌜ Onward run r ⌝ }
-{
-    let mut next = run;
-    next.halt = true;
-    next
-}
-
-// A failed read stops the run with no line.
-fn unreadable(run: Run) -> Run
-    requires { ⌜ Fit (run .state) ⌝ }
-    ensures { λ r. ⌜ Onward run r ⌝ }
-{
-    complain(b"deck: reading failed\n");
-    stopped(run)
-}
-
-// The end of input: the last line.
-fn finished(run: Run) -> Run
-    requires { ⌜ Fit (run .state) ⌝ }
-    ensures { λ r. ⌜ Onward run r ⌝ }
-{
-    let mut line = [0u8; 64];
-    let length = end_line(&mut line);
-    print(&line[..length]);
-    stopped(run)
-}
-
-// A record of which `body` arrived: its step, and its line.
-fn advanced(run: Run, kind: u8, body: &[u8]) -> Run
+// What arrived, taken: a failed read and the end of input stop the run, and a record is stepped.
+fn go(run: Run, arrival: Arrival, line: &mut [u8]) -> Going
     requires { ⌜ Fit (run .state) ⌝ }
     requires { ⌜ run .offset + 8 < 2 ^ 64 ⌝ }
-    ensures { λ r. ⌜ Advanced run kind (now (body .entry)) r ⌝ }
+    requires { ⌜ Arrives arrival ⌝ }
+    requires { ⌜ 5707 ≤ length (now line) ⌝ }
+    ensures { λ r. ⌜ Goes run arrival (now (line .entry)) r (now (line .exit)) ⌝ }
+{
+    if arrival.failed {
+        return stopped(run, 0);
+    }
+    if !arrival.found {
+        let length = end_line(line);
+        return stopped(run, length);
+    }
+    let body = arrival.body;
+    let count = arrival.count;
+    let before = run.state;
+    let after = step(before, arrival.kind, &body[..count], run.offset, line);
+    let state = after.state;
+    let next = Run {
+        state,
+        offset: run.offset + 1 + body_length(arrival.kind) as u64,
+        halt: after.halt,
+    };
+    Going {
+        run: next,
+        length: after.length,
+    }
+}
+
+// The next record, or the end of input: read, taken, and its line printed.
+fn turn(run: Run, line: &mut [u8]) -> Progress
+    requires { ⌜ Fit (run .state) ⌝ }
+    requires { ⌜ run .offset + 8 < 2 ^ 64 ⌝ }
+    requires { ⌜ 5707 ≤ length (now line) ⌝ }
+    ensures { λ r. ⌜ Turned run (now (line .entry)) r (now (line .exit)) ⌝ }
+{
+    let arrival = next_record();
+    let going = go(run, arrival, line);
+    let length = going.length;
+    let written = print(&line[..length]);
+    let next = going.run;
+    Progress {
+        run: next,
+        arrival,
+        length,
+        written,
+    }
+}
+
+// A whole run. A record takes 8 bytes at most, so that with these turns no offset wraps.
+fn play() -> Ending
+    ensures { λ r. ⌜ Ran r ⌝ }
 {
     let mut line = [0u8; 8192];
-    let before = run.state;
-    let after = step(before, kind, body, run.offset, &mut line);
-    let length = after.length;
-    let printed = print(&line[..length]);
-    let state = after.state;
-    Run {
-        state,
-        offset: run.offset + 1 + body_length(kind) as u64,
-        halt: after.halt | !printed,
-    }
-}
-
-// The record of this kind: its body, and its step.
-fn recorded(run: Run, kind: u8) -> Run
-    requires { ⌜ Fit (run .state) ⌝ }
-    requires { ⌜ run .offset + 8 < 2 ^ 64 ⌝ }
-    ensures { λ r. ⌜ Onward run r ⌝ }
-{
-    let mut body = [0u8; 7];
-    let arrival = read_body(&mut body, body_length(kind));
-    if arrival.failed {
-        return unreadable(run);
-    }
-    let count = arrival.count;
-    advanced(run, kind, &body[..count])
-}
-
-// The next record, or the end of input.
-fn turn(run: Run) -> Run
-    requires { ⌜ Fit (run .state) ⌝ }
-    requires { ⌜ run .offset + 8 < 2 ^ 64 ⌝ }
-    ensures { λ r. ⌜ Onward run r ⌝ }
-{
-    let mut kind = [0u8; 1];
-    let arrival = read_some(&mut kind);
-    if arrival.failed {
-        return unreadable(run);
-    }
-    if arrival.count == 0 {
-        return finished(run);
-    }
-    recorded(run, kind[0])
-}
-
-// A record takes 8 bytes at most, so that with these turns no offset wraps.
-fn main() {
     let state = fresh();
     let mut run = Run {
         state,
@@ -169,11 +118,37 @@ fn main() {
     };
     let mut turns = u64::MAX / 8;
     while turns > 0 {
-        run = turn(run);
-        if run.halt {
-            return;
+        let done = turn(run, &mut line);
+        run = done.run;
+        if run.halt | !done.written {
+            let last = done.arrival;
+            return Ending {
+                run,
+                unread: last.failed,
+                unwritten: !done.written,
+                spent: false,
+            };
         }
         turns -= 1;
     }
-    exhausted();
+    Ending {
+        run,
+        unread: false,
+        unwritten: false,
+        spent: true,
+    }
+}
+
+// What stopped a run short goes to standard error. No run that a machine can finish spends its turns.
+fn main() {
+    let ending = play();
+    if ending.unread {
+        complain(b"deck: reading failed\n");
+    }
+    if ending.unwritten {
+        complain(b"deck: writing failed\n");
+    }
+    if ending.spent {
+        complain(b"deck: too many records\n");
+    }
 }

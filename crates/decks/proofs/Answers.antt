@@ -1,6 +1,7 @@
 -- The lines of an opening and of a read, from what the calls on a job hand back.
 --
---   Answered d r        r is what the strict opening of a state's tables answers
+--   Answered d r        r is what the opening of a state answers
+--   answered-front      the strict opening at degree 16 in y answers that
 --   accepted-stands     the job of an accepted opening
 --   opening-refused     the step of a refused opening
 --   opening-accepted    and of an accepted one
@@ -25,29 +26,36 @@ use Rattle.job.specs.declared.ReadAnswer.{ReadAnswer}
 use Rattle.job.specs.Job.{pairOf}
 use Rattle.job.specs.Calls.{reading, wanted, written, degreeOf}
 use Rattle.job.specs.Public.{strictNumber, strictJob, outAfter, zeroFlag}
+use Rattle.job.specs.Replay.{front}
 use Rattle.job.specs.Standing.{Standing}
 use Rattle.job.specs.StandingLaws.{needed-fits}
 use Rattle.reads.specs.Read.{ReadSound}
 use Rattle.decks.specs.declared.Deck.{Deck}
-use Rattle.decks.specs.Text.{line, openWord, readWord}
-use Rattle.decks.specs.Line.{readText}
-use Rattle.decks.specs.Deck.{tableA, tableB, opening, withJob, taken, lineOf, stops, readLine}
-use Rattle.decks.specs.State.{opening-stands}
-use Rattle.decks.specs.Buffer.{Begins}
+use Rattle.lines.specs.Text.{line, openWord, readWord}
+use Rattle.lines.specs.Line.{readText}
+use Rattle.decks.specs.Deck.{opening, openedJob, withJob, taken, lineOf, stops, readLine}
+use Rattle.decks.specs.State.{Fit, opening-stands}
+use Rattle.decks.specs.OpeningLaws.{opening-front}
+use Rattle.lines.specs.Buffer.{Begins}
 use Rattle.decks.specs.Step.{settled, Steps}
 use Rattle.decks.specs.AnswerLaws.{openLine-done, openLine-refused, reading-room, readLine-done, readLine-wanting, written-taken}
 
 pub record Answered (d : Deck) (r : JobAnswer) : Type 0 where
-  pub number : r .number ≡ strictNumber (d .p) (d .m) 16 (d .n) 16 (tableA d) (tableB d)
-  pub job : r .job ≡ strictJob (d .p) (d .m) 16 (d .n) 16 (tableA d) (tableB d)
+  pub number : r .number ≡ opening d
+  pub job : r .job ≡ openedJob d
+
+pub answered-front : (d : Deck) (r : JobAnswer) → Fit d
+    → r .number ≡ strictNumber (d .p) (d .m) 16 (d .n) 16 (front (d .m) (d .a)) (front (d .n) (d .b))
+    → r .job ≡ strictJob (d .p) (d .m) 16 (d .n) 16 (front (d .m) (d .a)) (front (d .n) (d .b))
+    → Answered d r
+answered-front d r fit number job = record { number = number ∙ opening-front d fit .0; job = job ∙ opening-front d fit .1 }
 
 pub accepted-stands : (d : Deck) (r : JobAnswer) → Answered d r → r .number ≡ 0 → Standing (r .job)
-unfolding opening
 accepted-stands d r h e = rw (h .job) (opening-stands d (sym (h .number) ∙ e))
 
 module _ (d : Deck) (r : JobAnswer) (h : Answered d r) (out after : List ℕ) (k : ℕ) where
   pub opening-refused : (r .number ≡ 0 → ⊥) → Begins out (line openWord (r .number ∷ [])) after k → Steps (settled d 4 []) out (record { state = d; length = k; halt = true }) after
-  unfolding settled taken lineOf stops opening
+  unfolding settled taken lineOf stops
   opening-refused no-number laid =
       let refused : opening d ≡ 0 → ⊥ = λ e. no-number (h .number ∙ e) in
       record {
@@ -57,10 +65,10 @@ module _ (d : Deck) (r : JobAnswer) (h : Answered d r) (out after : List ℕ) (k
       }
 
   pub opening-accepted : (b : ℕ) → r .number ≡ 0 → b + 1 ≡ needed (pairOf (r .job)) → Begins out (line openWord (0 ∷ b ∷ [])) after k → Steps (settled d 4 []) out (record { state = withJob d 3 (r .job); length = k; halt = false }) after
-  unfolding settled taken lineOf stops opening needed
+  unfolding settled taken lineOf stops needed
   opening-accepted b e top laid =
       let accepted : opening d ≡ 0 = sym (h .number) ∙ e in
-      let same : b ≡ bound (pairOf (strictJob (d .p) (d .m) 16 (d .n) 16 (tableA d) (tableB d))) = (omega arith) ∙ ap (λ (j : Job). bound (pairOf j)) (h .job) in
+      let same : b ≡ bound (pairOf (openedJob d)) = (omega arith) ∙ ap (λ (j : Job). bound (pairOf j)) (h .job) in
       record {
         state = rw (eq-eqb (opening d) 0 accepted) (ap (withJob d 3) (h .job));
         halt = rw (eq-eqb (opening d) 0 accepted) refl;

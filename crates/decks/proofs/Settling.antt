@@ -5,40 +5,36 @@
 --   within-tables             its place is within the tables
 --   open-job                  an offer or a read finds an open job
 --   step-silent               the step of a record that prints nothing
---   taken-modulus, ..         the state after it
---   settled-open, ..          an opening and a read look at no body
+--   taken-modulus             the state after a record of kind 1,
+--   taken-degrees             of kind 2,
+--   taken-place               and of kind 3
+--   settled-open              an opening looks at no body,
+--   settled-read              and neither does a read
 --   step-read, step-point     the steps of a read and of an offer, from the line that is laid
 use Prim.Native.Nat.{ℕ, _+_, _*_, _≤_, _<_}
 use native.Mathlib.Omega.{arith}
-use mathlib.Core.Bool.{Bool, true, false, _&&_, _||_, and-false}
+use mathlib.Core.Bool.{Bool, true, false}
 use mathlib.Core.List.{List, [], _∷_}
 use mathlib.Core.Path.{_≡_, refl, ap, _∙_}
 use lib.Dec.{eqb, leb}
 use lib.ListN.{length}
-use borrow.Author.Tests.{eqb-true, ne-eqb, not-false, leb-true}
+use borrow.Author.Tests.{ne-eqb, not-false, leb-true}
 use Rattle.job.specs.declared.Job.{Job}
 use Rattle.job.specs.Calls.{offerNumber, offered}
 use Rattle.job.specs.Standing.{Standing}
 use Rattle.scope.specs.Usable.{and-true}
 use Rattle.decks.specs.declared.Deck.{Deck}
-use Rattle.decks.specs.Text.{line, pointWord}
-use Rattle.decks.specs.Deck.{known, bodyLength, byte, number4, inOrder, deckNumber, withModulus, withDegrees, withPlace, withJob, taken, pointLine, readLine, lineOf, stops}
-use Rattle.decks.specs.Refusal.{passed, whole-body, inside}
+use Rattle.lines.specs.Text.{line, pointWord}
+use Rattle.decks.specs.Deck.{known, bodyLength, byte, number4, astray, deckNumber, withModulus, withDegrees, withPlace, withJob, taken, pointLine, readLine, lineOf, stops}
+use Rattle.decks.specs.Refusal.{passed, whole-body, within-a, within-b, stage-open}
 use Rattle.decks.specs.State.{Fit}
-use Rattle.decks.specs.Buffer.{Begins}
-use Rattle.decks.specs.BufferLaws.{begins-none}
+use Rattle.lines.specs.Buffer.{Begins}
+use Rattle.lines.specs.BufferLaws.{begins-none}
 use Rattle.decks.specs.Step.{settled, Steps}
-
--- where the last of four tests alone can hold
-only-last : (a b c t : Bool) → ((a && false) || (b && false) || (c && false) || t) ≡ true → t ≡ true
-only-last a b c t e = simp and-false at e
 
 module _ (d : Deck) (k : ℕ) (body : List ℕ) (fine : deckNumber d k body ≡ 0) where
   pub whole : bodyLength k ≤ length body
   whole = whole-body d k body (passed d k body fine .arrived)
-
-  order : inOrder (d .stage) k ≡ true
-  order = not-false (inOrder (d .stage) k) (passed d k body fine .arrived .order)
 
   -- the last kind of the table
   pub last-kind : (k ≡ 1 → ⊥) → (k ≡ 2 → ⊥) → (k ≡ 3 → ⊥) → (k ≡ 4 → ⊥) → (k ≡ 5 → ⊥) → k ≡ 6
@@ -48,16 +44,17 @@ module _ (d : Deck) (k : ℕ) (body : List ℕ) (fine : deckNumber d k body ≡ 
       omega (arith, leb-true 1 k low, leb-true k 6 high)
 
   pub within-tables : Fit d → k ≡ 3 → byte body 1 * 17 + byte body 2 < 289
-  within-tables fit three = inside d body (fit .low-m) (fit .low-e) (fit .low-n) (fit .low-f) (rw three at (passed d k body fine .placed))
+  within-tables fit three = by-side (eqb (byte body 0) 0) refl
+    where
+      inside : astray d body ≡ false
+      inside = rw three at (passed d k body fine .placed)
+
+      by-side : (t : Bool) → eqb (byte body 0) 0 ≡ t → byte body 1 * 17 + byte body 2 < 289
+      by-side true t = omega (arith, within-a d body inside t, fit .side-a .low-x, fit .side-a .low-y)
+      by-side false t = omega (arith, within-b d body inside t, fit .side-b .low-x, fit .side-b .low-y)
 
   pub open-job : Fit d → 4 < k → Standing (d .job)
-  unfolding inOrder
-  open-job fit late =
-      fit .job-stands
-      (eqb-true (d .stage) 3
-      (and-true (eqb (d .stage) 3) (eqb k 5 || eqb k 6)
-      (only-last (eqb (d .stage) 0) (eqb (d .stage) 1) (eqb (d .stage) 2) (eqb (d .stage) 3 && (eqb k 5 || eqb k 6))
-      (rw (ne-eqb k 1 (omega arith), ne-eqb k 2 (omega arith), ne-eqb k 3 (omega arith), ne-eqb k 4 (omega arith)) at order)) .0))
+  open-job fit late = fit .job-stands (stage-open d k body (passed d k body fine .arrived) late)
 
 -- a record that prints nothing
 pub step-silent : (d next : Deck) (k : ℕ) (body out : List ℕ) → k < 4 → next ≡ taken d k body → Steps (settled d k body) out (record { state = next; length = 0; halt = false }) out

@@ -1,13 +1,12 @@
 -- The lines of an opening and of a read, from what the calls on a job hand back.
 --
---   bound-kept           D from the record's own numbers
 --   openLine-done        the line of an accepted opening
 --   openLine-refused     and of a refused one
 --   reading-room         a read into more entries than it writes answers as one into just as many
 --   readLine-done        the line of a read that is done
 --   readLine-wanting     and of one that wants more points
 --   written-taken        the entries that a read wrote
-use Prim.Native.Nat.{ℕ, _+_, _*_, _≤_}
+use Prim.Native.Nat.{ℕ, _≤_}
 use mathlib.Core.Bool.{true, false, cond}
 use mathlib.Core.List.{List, [], _∷_, _++_}
 use mathlib.Core.Path.{_≡_, refl, ap}
@@ -23,18 +22,13 @@ use Rattle.scope.specs.Degree.{tabulate-length}
 use Rattle.job.specs.declared.Job.{Job}
 use Rattle.job.specs.Job.{pairOf}
 use Rattle.job.specs.Calls.{reading, wanted, written, degreeOf, isZero}
-use Rattle.job.specs.Public.{strictJob, zeroFlag}
-use Rattle.job.specs.Standing.{Standing}
+use Rattle.job.specs.Public.{zeroFlag}
 use Rattle.decks.specs.declared.Deck.{Deck}
-use Rattle.decks.specs.Text.{line, decimal, spaced, openWord, readWord}
-use Rattle.decks.specs.Line.{degreeText, readText}
-use Rattle.decks.specs.Deck.{opening, openLine, degreeWord, readLine, tableA, tableB}
+use Rattle.lines.specs.Text.{line, decimal, spaced, openWord, readWord}
+use Rattle.lines.specs.Line.{degreeText, readText}
+use Rattle.decks.specs.Deck.{opening, openedJob, openLine, degreeWord, readLine}
 
-pub bound-kept : (j : Job) → Standing j → bound (pairOf j) ≡ j .n * j .da + j .m * j .db
-unfolding bound pairOf
-bound-kept j s = rw (s .real-a, s .real-b) refl
-
-pub openLine-done : (d : Deck) → opening d ≡ 0 → openLine d ≡ line openWord (0 ∷ bound (pairOf (strictJob (d .p) (d .m) 16 (d .n) 16 (tableA d) (tableB d))) ∷ [])
+pub openLine-done : (d : Deck) → opening d ≡ 0 → openLine d ≡ line openWord (0 ∷ bound (pairOf (openedJob d)) ∷ [])
 unfolding openLine
 openLine-done d e = rw (eq-eqb (opening d) 0 e) refl
 

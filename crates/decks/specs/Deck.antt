@@ -1,30 +1,47 @@
 -- What a deck means: from its bytes to the lines that are printed and the state that is left.
 --
+--   known k                 k is a kind of the table
 --   bodyLength k            how many bytes the body of a record of kind k has
+--   byte body at            one byte of a body
 --   number4 body at         the little-endian number in four bytes
 --   fresh                   the state before the first record
 --   inOrder stage k         a record of kind k may stand here
+--   astray d body           its side or place is outside the shape
 --   deckNumber d k body     the deck refusal of a record: 21, 22, 23, 4, 24, or 0; body is what arrived of it
---   tableA d, tableB d      the coefficients set so far, laid out for degree 16 in y (which changes no answer)
---   opening d               the number that the opening answers
+--   tabled m e A            the table of degrees m and e with the coefficients A
+--   tableA d, tableB d      the tables of the declared degrees: the values set so far, 0 at every other place
+--   opening d               the number that opening them answers
+--   openedJob d             the job that it gives
+--   withModulus d body      the state after a record of kind 1,
+--   withDegrees d body      of kind 2,
+--   withPlace d body        of kind 3: the value stands at its place from now on
+--   withJob d stage j       the state with another stage and job
 --   taken d k body          the state after a record that is not refused
---   lineOf d k body         the line that it prints, or nothing
+--   openLine d              the line of an opening,
+--   pointLine j a           of an offer,
+--   readLine j              of a read
+--   degreeWord j            the degree in words: a dash for the zero polynomial
+--   lineOf d k body         the line that a record prints, or nothing
 --   stops d k               the run stops after it
---   deck, lines, finally    the lines of a whole deck, and the state it leaves
-use Prim.Native.Nat.{ℕ, zero, suc, _+_, _*_}
-use mathlib.Core.Bool.{Bool, true, false, cond, not, _&&_, _||_}
+--   Outcome                 what a run leaves: the lines printed, and the state
+--   before text o           a line in front of what follows
+--   halted text d           a line at which the run stops
+--   from fuel offset d bytes    the run from the record at `offset`, with `fuel` records at most
+--   deck bytes              a whole deck
+use Prim.Native.Nat.{ℕ, zero, suc, _+_, _*_, _/_, _%_}
+use mathlib.Core.Bool.{Bool, cond, not, _&&_, _||_}
 use mathlib.Core.List.{List, [], _∷_, _++_}
 use lib.Dec.{ltb, leb, eqb}
 use lib.ListN.{length, getD, take, drop, set, replicate}
-use Rattle.scope.specs.Pair.{bound}
+use Rattle.scope.specs.Pair.{place, size, term, bound}
 use Rattle.scope.specs.Number.{_gives_otherwise_, tooHigh}
-use Rattle.scope.specs.Point.{room}
+use Rattle.scope.specs.Point.{tabulate, room}
 use Rattle.job.specs.declared.Job.{Job}
 use Rattle.job.specs.Job.{pairOf, blank}
 use Rattle.job.specs.Calls.{offerNumber, offered, reading, wanted, written, degreeOf, isZero}
 use Rattle.job.specs.Public.{strictNumber, strictJob}
 use Rattle.decks.specs.declared.Deck.{Deck}
-use Rattle.decks.specs.Text.{line, spaced, decimal, openWord, pointWord, readWord, deckWord, endWord}
+use Rattle.lines.specs.Text.{line, spaced, decimal, openWord, pointWord, readWord, deckWord, endWord}
 
 unfoldable pub known : ℕ → Bool
 known k = leb 1 k && leb k 6
@@ -59,7 +76,6 @@ inOrder stage k =
     || (eqb stage 2 && (eqb k 3 || eqb k 4))
     || (eqb stage 3 && (eqb k 5 || eqb k 6))
 
--- a side or place outside the shape
 unfoldable pub astray : Deck → List ℕ → Bool
 astray d body =
     ltb 1 (byte body 0)
@@ -75,14 +91,21 @@ deckNumber d k body =
     (eqb k 2 && (tooHigh (byte body 0) || tooHigh (byte body 1) || tooHigh (byte body 2) || tooHigh (byte body 3))) gives 4 otherwise
     (eqb k 3 && astray d body) gives 24 otherwise 0
 
+unfoldable pub tabled : (m e : ℕ) → (ℕ → ℕ → ℕ) → List ℕ
+tabled m e A = tabulate (size m e) (λ k. A (k / (e + 1)) (k % (e + 1)))
+
+-- a state keeps 17 places for each power of x, whatever the declared degree in y
 unfoldable pub tableA : Deck → List ℕ
-tableA d = take ((d .m + 1) * 17) (d .a)
+tableA d = tabled (d .m) (d .e) (term 16 (d .a))
 
 unfoldable pub tableB : Deck → List ℕ
-tableB d = take ((d .n + 1) * 17) (d .b)
+tableB d = tabled (d .n) (d .f) (term 16 (d .b))
 
 unfoldable pub opening : Deck → ℕ
-opening d = strictNumber (d .p) (d .m) 16 (d .n) 16 (tableA d) (tableB d)
+opening d = strictNumber (d .p) (d .m) (d .e) (d .n) (d .f) (tableA d) (tableB d)
+
+unfoldable pub openedJob : Deck → Job
+openedJob d = strictJob (d .p) (d .m) (d .e) (d .n) (d .f) (tableA d) (tableB d)
 
 unfoldable pub withModulus : Deck → List ℕ → Deck
 withModulus d body =
@@ -95,8 +118,8 @@ withDegrees d body =
 unfoldable pub withPlace : Deck → List ℕ → Deck
 withPlace d body =
     cond (eqb (byte body 0) 0)
-    (record { stage = d .stage; p = d .p; m = d .m; e = d .e; n = d .n; f = d .f; a = set (d .a) (byte body 1 * 17 + byte body 2) (number4 body 3); b = d .b; job = d .job })
-    (record { stage = d .stage; p = d .p; m = d .m; e = d .e; n = d .n; f = d .f; a = d .a; b = set (d .b) (byte body 1 * 17 + byte body 2) (number4 body 3); job = d .job })
+    (record { stage = d .stage; p = d .p; m = d .m; e = d .e; n = d .n; f = d .f; a = set (d .a) (place 16 (byte body 1) (byte body 2)) (number4 body 3); b = d .b; job = d .job })
+    (record { stage = d .stage; p = d .p; m = d .m; e = d .e; n = d .n; f = d .f; a = d .a; b = set (d .b) (place 16 (byte body 1) (byte body 2)) (number4 body 3); job = d .job })
 
 unfoldable pub withJob : Deck → ℕ → Job → Deck
 withJob d stage j = record { stage = stage; p = d .p; m = d .m; e = d .e; n = d .n; f = d .f; a = d .a; b = d .b; job = j }
@@ -106,20 +129,18 @@ taken d k body =
     cond (eqb k 1) (withModulus d body)
     (cond (eqb k 2) (withDegrees d body)
     (cond (eqb k 3) (withPlace d body)
-    (cond (eqb k 4) (cond (eqb (opening d) 0) (withJob d 3 (strictJob (d .p) (d .m) 16 (d .n) 16 (tableA d) (tableB d))) d)
+    (cond (eqb k 4) (cond (eqb (opening d) 0) (withJob d 3 (openedJob d)) d)
     (cond (eqb k 5) (withJob d (d .stage) (offered (d .job) (number4 body 0))) d))))
 
--- the lines of an opening, an offer and a read
 unfoldable pub openLine : Deck → List ℕ
 openLine d =
     cond (eqb (opening d) 0)
-    (line openWord (0 ∷ bound (pairOf (strictJob (d .p) (d .m) 16 (d .n) 16 (tableA d) (tableB d))) ∷ []))
+    (line openWord (0 ∷ bound (pairOf (openedJob d)) ∷ []))
     (line openWord (opening d ∷ []))
 
 unfoldable pub pointLine : Job → ℕ → List ℕ
 pointLine j a = line pointWord (a ∷ offerNumber j a ∷ [])
 
--- the degree in words: a dash for the zero polynomial
 unfoldable pub degreeWord : Job → List ℕ
 degreeWord j = cond (isZero (pairOf j)) (45 ∷ []) (decimal (degreeOf (pairOf j)))
 
@@ -143,14 +164,12 @@ pub record Outcome : Type 0 where
   pub text : List ℕ
   pub state : Deck
 
--- a line in front of what follows
 unfoldable pub before : List ℕ → Outcome → Outcome
 before text o = record { text = text ++ o .text; state = o .state }
 
 unfoldable pub halted : List ℕ → Deck → Outcome
 halted text d = record { text = text; state = d }
 
--- from the record at `offset`, with `fuel` records at most
 unfoldable pub from : ℕ → ℕ → Deck → List ℕ → Outcome
 from zero offset d bytes = halted [] d
 from (suc fuel) offset d [] = halted (line endWord []) d

@@ -11,15 +11,16 @@
 --   from-enough                      room for more records than there are bytes changes nothing
 --   deck-stepping                    so a loop with that much room is the whole deck
 use Prim.Native.Nat.{ℕ, zero, suc, _+_, _<_}
-use mathlib.Core.Bool.{Bool, true, false, cond, not, _&&_}
+use mathlib.Core.Bool.{Bool, true, false, cond, not}
 use mathlib.Core.List.{List, [], _∷_}
 use mathlib.Core.Path.{_≡_, refl, ap, _∙_}
 use native.Mathlib.Omega.{arith}
 use lib.Dec.{eqb}
 use lib.ListN.{length, take, drop, length-drop}
 use borrow.Author.Tests.{eqb-true, eq-eqb, ne-eqb, not-true}
+use Rattle.scope.specs.Usable.{and-true}
 use Rattle.decks.specs.declared.Deck.{Deck}
-use Rattle.decks.specs.Text.{line, deckWord, endWord}
+use Rattle.lines.specs.Text.{line, deckWord, endWord}
 use Rattle.decks.specs.Deck.{bodyLength, deckNumber, opening, taken, lineOf, stops, Outcome, before, halted, from, fresh, deck}
 
 pub record Stepped : Type 0 where
@@ -51,14 +52,10 @@ stepping (suc fuel) offset d (k ∷ rest) =
     follow (stepped d k (take (bodyLength k) rest) offset)
     (λ e. stepping fuel (offset + 1 + bodyLength k) e (drop (bodyLength k) rest))
 
-both-true : (a b : Bool) → (a && b) ≡ true → (a ≡ true) × (b ≡ true)
-both-true true b e = (refl, e)
-both-true false b e = let z : _≡_ {A = ℕ} 0 1 = cc in absurd (omega arith)
-
 pub taken-stopped : (d : Deck) (k : ℕ) (body : List ℕ) → stops d k ≡ true → taken d k body ≡ d
 unfolding stops taken
 taken-stopped d k body e =
-    let (four, refused) = both-true (eqb k 4) (not (eqb (opening d) 0)) e in
+    let (four, refused) = and-true (eqb k 4) (not (eqb (opening d) 0)) e in
     rw (eqb-true k 4 four, not-true (eqb (opening d) 0) refused) refl
 
 -- one step, whatever follows

@@ -2,12 +2,13 @@
 --
 --   k1Deck      modulus 7, degrees 1 1 1 1, A = x + y, B = x + 6y, open, offer 0, read, offer 1, 1, 3, 5, read
 --   k1Lines     open 0 2, point 0 0, read 14 2, point 1 0, point 1 12, point 3 0, point 5 1, read 0 1 0 5 0, end
+--   k1-holds    the deck prints those lines
 use Prim.Native.Nat.{ℕ}
 use mathlib.Core.List.{List, [], _∷_}
 use mathlib.Core.Path.{_≡_, refl}
 use Rattle.job.specs.Computing.{computing}
-use Rattle.decks.specs.Text.{digits, decimal, spaced, line, openWord, pointWord, readWord, deckWord, endWord}
-use Rattle.decks.specs.Deck.{known, bodyLength, byte, number4, fresh, inOrder, astray, deckNumber, tableA, tableB, opening, withModulus, withDegrees, withPlace, withJob, taken, openLine, pointLine, degreeWord, readLine, lineOf, stops, before, halted, from, deck}
+use Rattle.lines.specs.Text.{digits, decimal, spaced, line, openWord, pointWord, readWord, deckWord, endWord}
+use Rattle.decks.specs.Deck.{known, bodyLength, byte, number4, fresh, inOrder, astray, deckNumber, tabled, tableA, tableB, opening, openedJob, withModulus, withDegrees, withPlace, withJob, taken, openLine, pointLine, degreeWord, readLine, lineOf, stops, before, halted, from, deck}
 
 abbrev pub k1Deck : List ℕ
 k1Deck =
@@ -41,5 +42,5 @@ k1Lines =
     ∷ []
 
 pub k1-holds : deck k1Deck .text ≡ k1Lines
-unfolding computing digits decimal spaced line openWord pointWord readWord deckWord endWord known bodyLength byte number4 fresh inOrder astray deckNumber tableA tableB opening withModulus withDegrees withPlace withJob taken openLine pointLine degreeWord readLine lineOf stops before halted from deck
+unfolding computing digits decimal spaced line openWord pointWord readWord deckWord endWord known bodyLength byte number4 fresh inOrder astray deckNumber tabled tableA tableB opening openedJob withModulus withDegrees withPlace withJob taken openLine pointLine degreeWord readLine lineOf stops before halted from deck
 k1-holds = refl

@@ -10,17 +10,22 @@
 --   passed                      the number 0 says so
 --   whole-body                  its body is all there
 --   Low, low-degrees            its degrees are 16 at most
---   inside                      its place is within the tables, where the degrees so far are 16 at most
-use Prim.Native.Nat.{ℕ, _+_, _*_, _≤_, _<_}
-use mathlib.Core.Bool.{Bool, true, false, not, _&&_, _||_, cond}
+--   within-a, within-b          its place is within the declared degrees of its side
+--   stage-modulus               a record of kind 1 finds the stage 0,
+--   stage-degrees               one of kind 2 the stage 1,
+--   stage-place                 one of kind 3 the stage 2,
+--   stage-open                  an offer or a read the stage 3
+use Prim.Native.Nat.{ℕ, _≤_, _<_}
+use mathlib.Core.Bool.{Bool, true, false, not, _&&_, _||_, cond, and-true, and-false, or-false as Bool·or-false}
 use mathlib.Core.List.{List}
 use mathlib.Core.Path.{_≡_, refl}
 use native.Mathlib.Omega.{arith}
 use lib.Dec.{ltb, eqb}
 use lib.ListN.{length}
-use borrow.Author.Tests.{ltb-false}
+use borrow.Author.Tests.{ltb-false, eqb-true, ne-eqb, not-false}
 use Rattle.scope.specs.Number.{_gives_otherwise_, tooHigh}
 use Rattle.scope.specs.Search.{or-false}
+use Rattle.scope.specs.Usable.{and-true as both-true}
 use Rattle.scope.specs.TestLaws.{gives-zero, tooHigh-false}
 use Rattle.decks.specs.declared.Deck.{Deck}
 use Rattle.decks.specs.Deck.{known, bodyLength, byte, inOrder, astray, deckNumber}
@@ -92,15 +97,45 @@ low-degrees body e =
     }
 
 -- a place that is not past two bounds
-within : (x y i j : ℕ) → x ≤ 16 → y ≤ 16 → (ltb x i || ltb y j) ≡ false → i * 17 + j < 289
-within x y i j hx hy e =
-    let (a, b) = or-false (ltb x i) (ltb y j) e in
-    omega (arith, ltb-false x i a, ltb-false y j b)
+within : (x y i j : ℕ) → (ltb x i || ltb y j) ≡ false → (i ≤ x) × (j ≤ y)
+within x y i j e = let (a, b) = or-false (ltb x i) (ltb y j) e in (ltb-false x i a, ltb-false y j b)
 
-pub inside : (d : Deck) (body : List ℕ) → d .m ≤ 16 → d .e ≤ 16 → d .n ≤ 16 → d .f ≤ 16 → astray d body ≡ false → byte body 1 * 17 + byte body 2 < 289
-unfolding astray
-inside d body hm he hn hf e = go (eqb (byte body 0) 0) (or-false (ltb 1 (byte body 0)) _ e .1)
-  where
-    go : (t : Bool) → cond t (ltb (d .m) (byte body 1) || ltb (d .e) (byte body 2)) (ltb (d .n) (byte body 1) || ltb (d .f) (byte body 2)) ≡ false → byte body 1 * 17 + byte body 2 < 289
-    go true q = within (d .m) (d .e) (byte body 1) (byte body 2) hm he q
-    go false q = within (d .n) (d .f) (byte body 1) (byte body 2) hn hf q
+module _ (d : Deck) (body : List ℕ) (e : astray d body ≡ false) where
+  shape : cond (eqb (byte body 0) 0) (ltb (d .m) (byte body 1) || ltb (d .e) (byte body 2)) (ltb (d .n) (byte body 1) || ltb (d .f) (byte body 2)) ≡ false
+  unfolding astray
+  shape = or-false (ltb 1 (byte body 0)) _ e .1
+
+  pub within-a : eqb (byte body 0) 0 ≡ true → (byte body 1 ≤ d .m) × (byte body 2 ≤ d .e)
+  within-a t = within (d .m) (d .e) (byte body 1) (byte body 2) (rw t at shape)
+
+  pub within-b : eqb (byte body 0) 0 ≡ false → (byte body 1 ≤ d .n) × (byte body 2 ≤ d .f)
+  within-b t = within (d .n) (d .f) (byte body 1) (byte body 2) (rw t at shape)
+
+-- where the last of four tests alone can hold
+only-last : (a b c t : Bool) → ((a && false) || (b && false) || (c && false) || t) ≡ true → t ≡ true
+only-last a b c t e = simp and-false at e
+
+-- the stage at which a record is in order
+module _ (d : Deck) (k : ℕ) (body : List ℕ) (h : Arrived d k body) where
+  order : inOrder (d .stage) k ≡ true
+  order = not-false (inOrder (d .stage) k) (h .order)
+
+  pub stage-modulus : k ≡ 1 → d .stage ≡ 0
+  unfolding inOrder
+  stage-modulus e = eqb-true (d .stage) 0 (simp (and-true, and-false, Bool·or-false) at (rw e at order))
+
+  pub stage-degrees : k ≡ 2 → d .stage ≡ 1
+  unfolding inOrder
+  stage-degrees e = eqb-true (d .stage) 1 (simp (and-true, and-false, Bool·or-false) at (rw e at order))
+
+  pub stage-place : k ≡ 3 → d .stage ≡ 2
+  unfolding inOrder
+  stage-place e = eqb-true (d .stage) 2 (simp (and-true, and-false, Bool·or-false) at (rw e at order))
+
+  pub stage-open : 4 < k → d .stage ≡ 3
+  unfolding inOrder
+  stage-open late =
+      eqb-true (d .stage) 3
+      (both-true (eqb (d .stage) 3) (eqb k 5 || eqb k 6)
+      (only-last (eqb (d .stage) 0) (eqb (d .stage) 1) (eqb (d .stage) 2) (eqb (d .stage) 3 && (eqb k 5 || eqb k 6))
+      (rw (ne-eqb k 1 (omega arith), ne-eqb k 2 (omega arith), ne-eqb k 3 (omega arith), ne-eqb k 4 (omega arith)) at order)) .0)

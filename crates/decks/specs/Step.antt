@@ -9,7 +9,7 @@ use Rattle.decks.specs.declared.Deck.{Deck}
 use Rattle.decks.specs.declared.Step.{Step}
 use Rattle.decks.specs.Deck.{taken, lineOf, stops}
 use Rattle.decks.specs.DeckLaws.{Stepped}
-use Rattle.decks.specs.Buffer.{Begins}
+use Rattle.lines.specs.Buffer.{Begins}
 
 unfoldable pub settled : Deck → ℕ → List ℕ → Stepped
 settled d k body = record { state = taken d k body; text = lineOf d k body; halt = stops d k }

@@ -1,10 +1,8 @@
 // The deck reader: the state it goes through, one record at a time.
 use job::Job;
 
-pub mod lines;
 pub mod records;
 pub mod steps;
-pub mod text;
 
 // stage: 0 before the modulus, 1 before the degrees, 2 before the opening, 3 with an open job.
 // The coefficient of x^i y^j of A stands at 17 i + j of `a`, and so for B.

@@ -2,18 +2,18 @@
 // The job in a state comes from an opening and offers alone, so no call here checks it again.
 use crate::Deck;
 use crate::Step;
-use crate::lines::deck_line;
-use crate::lines::open_line;
-use crate::lines::point_line;
-use crate::lines::read_line;
-use crate::lines::refused_line;
-use crate::lines::wanted_line;
 use crate::records::deck_number;
 use crate::records::number4;
 use crate::records::with_degrees;
 use crate::records::with_modulus;
 use crate::records::with_place;
 use job::Job;
+use lines::deck_line;
+use lines::open_line;
+use lines::point_line;
+use lines::read_line;
+use lines::refused_line;
+use lines::wanted_line;
 ghost use Prim.Native.Nat.{_≤_, _<_};
 ghost use mathlib.Core.Bool.{false};
 ghost use mathlib.Core.List.{[]};
@@ -23,7 +23,7 @@ ghost use Rattle.job.specs.Standing.{Standing};
 ghost use Rattle.decks.specs.Deck.{deckNumber, readLine};
 ghost use Rattle.decks.specs.DeckLaws.{stepped};
 ghost use Rattle.decks.specs.State.{Fit};
-ghost use Rattle.decks.specs.Buffer.{Begins};
+ghost use Rattle.lines.specs.Buffer.{Begins};
 ghost use Rattle.decks.specs.Step.{settled, Steps};
 
 // The line of a read.

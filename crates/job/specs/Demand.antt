@@ -1,10 +1,9 @@
 -- Demand 3: what a read hands out after any list of calls on a fresh job.
 --
---   Call                  a call of somebody who holds the job: an offer, a lot with its answer bytes, a read with its
---                         output, or any of these made with another record by mistake
+--   Call                  a call of somebody who holds the job: an offer, a lot with its answer bytes, or a read with its
+--                         output
 --   after j c, run j cs   the job that the caller then holds
---   pointsOf c            the points that a call offers: a lot refused for room offers none, a call with a broken record
---                         none
+--   pointsOf c            the points that a call offers: a lot refused for room offers none
 --   allPoints cs          those of all calls, in order
 --   counts P a            a is a usable point
 --   among, distinct       the different ones of a list, each where it first stands
@@ -24,13 +23,11 @@ pub data Call : Type 0 where
   offer : ℕ → Call
   lot : List ℕ → List ℕ → Call
   read : List ℕ → Call
-  broken : Job → Call → Call
 
 unfoldable pub after : Job → Call → Job
 after j (offer a) = offerJob j a
 after j (lot xs answers) = lotJob j xs answers
 after j (read out) = j
-after j (broken r c) = j
 
 unfoldable pub run : Job → List Call → Job
 run j [] = j
@@ -40,7 +37,6 @@ unfoldable pub pointsOf : Call → List ℕ
 pointsOf (offer a) = a ∷ []
 pointsOf (lot xs answers) = cond (leb (length xs) (length answers)) xs []
 pointsOf (read out) = []
-pointsOf (broken r c) = []
 
 unfoldable pub allPoints : List Call → List ℕ
 allPoints [] = []

@@ -3,9 +3,11 @@
 --
 --   run-lotted             a list of calls on a sound job is one lot of all the points that they offer
 --   idle-uncounted         a number that is no usable point changes nothing
+--   among-snoc             what is among the points of a list and one more
 --   lotted-count           how many points are kept after a lot
 --   written-same, degreeOf-same, zeroFlag-same   a read hands out the same for pairs with the same coefficients
 --   demand-3               what a read answers after any list of calls on a fresh job
+--   Refused j, unsound-refused   every call with a record that is not sound is answered 16, and changes nothing
 use Prim.Native.Nat.{ℕ, zero, suc, _+_, _-_, _<_, _≤_, min}
 use native.Mathlib.Numerals.{add-one}
 use native.Mathlib.Omega.{arith}
@@ -26,15 +28,15 @@ use Rattle.scope.specs.Number.{among, pointNumber, lotNumber, readNumber, openN
 use Rattle.job.specs.declared.Job.{Job}
 use Rattle.job.specs.Job.{pairOf, opened, keptPoints, stored}
 use Rattle.job.specs.Calls.{offerNumber, offered, lotted, reading, wanted, written, nonzero, degreeOf, isZero}
-use Rattle.job.specs.Sound.{sound?}
-use Rattle.job.specs.Public.{offerJob, lotAnswer, lotJob, readAnswer, readWanted, readDegree, readZero, readOut, outAfter, zeroFlag}
-use Rattle.job.specs.Demand.{Call, offer, lot, read, broken, after, run, pointsOf, allPoints, counts, counting, distinct, offeredCount}
+use Rattle.job.specs.Sound.{Sound, sound?}
+use Rattle.job.specs.Public.{offerAnswer, offerJob, lotAnswer, lotJob, lotBytes, readAnswer, readWanted, readDegree, readZero, readOut, outAfter, zeroFlag}
+use Rattle.job.specs.Demand.{Call, offer, lot, read, after, run, pointsOf, allPoints, counts, counting, distinct, offeredCount}
 use Rattle.job.specs.Standing.{Standing}
 use Rattle.job.specs.SamePair.{SamePair, same-bound, same-needed, same-room, same-usable, same-coefficient}
 use Rattle.scope.specs.TestLaws.{pointNumber-zero}
 use Rattle.job.specs.OpenLaws.{opened-same, opened-standing}
 use Rattle.job.specs.StandingLaws.{offer-kept, kept-offer, offered-kept, offered-else, stored-pair, stored-standing, offered-standing, lotted-standing, offered-pair, lotted-pair, lotted-append, needed-fits}
-use Rattle.job.specs.SoundLaws.{standing-test}
+use Rattle.job.specs.SoundLaws.{standing-test, sound-test}
 
 -- on a sound job a call gives what it gives without the test
 after-lotted : (j : Job) → Standing j → (c : Call) → after j c ≡ lotted j (pointsOf c)
@@ -47,7 +49,6 @@ after-lotted j s (lot xs answers) = rw (standing-test j .1 s) (go (ltb (length a
     go true e = rw (lt-leb (length xs) (length answers) (ltb-true (length answers) (length xs) e)) refl
     go false e = rw (le-leb (length xs) (length answers) (ltb-false (length answers) (length xs) e)) refl
 after-lotted j s (read out) = refl
-after-lotted j s (broken r c) = refl
 
 pub run-lotted : (cs : List Call) (j : Job) → Standing j → run j cs ≡ lotted j (allPoints cs)
 unfolding run allPoints
@@ -76,7 +77,7 @@ idle-kept j a h = offered-else j a (λ e. clash (pointNumber-zero (pairOf j) (ke
 idle-complete : (j : Job) (a : ℕ) → j .count ≡ needed (pairOf j) → offered j a ≡ j
 idle-complete j a h = offered-else j a (λ e. omega (arith, offer-kept j a e .1, h))
 
-among-snoc : (x a : ℕ) (s : List ℕ) → among x (s ++ a ∷ []) ≡ among x (a ∷ s)
+pub among-snoc : (x a : ℕ) (s : List ℕ) → among x (s ++ a ∷ []) ≡ among x (a ∷ s)
 unfolding among
 among-snoc x a [] = refl
 among-snoc x a (y ∷ s) = ap (λ (t : Bool). eqb x y || t) (among-snoc x a s) ∙ swap (eqb x y) (eqb x a) (among x s)
@@ -283,3 +284,25 @@ module _ (p m e n f : ℕ) (s t : List ℕ) (cs : List Call) where
         waiting l =
             let r = read-early held held-standing out roomy (omega (arith, held-count, same-needed (pairOf held) polynomials held-same)) in
             (r .0, r .1 ∙ omega (arith, held-count, same-needed (pairOf held) polynomials held-same), r .2)
+
+-- what the calls with the record j answer and leave behind where they are refused for it
+pub record Refused (j : Job) : Type 0 where
+  pub offers : (a : ℕ) → (offerAnswer j a ≡ 16) × (offerJob j a ≡ j)
+  pub lots : (xs answers : List ℕ) → (lotAnswer j xs answers ≡ 16) × (lotJob j xs answers ≡ j) × (lotBytes j xs answers ≡ answers)
+  pub reads : (out : List ℕ)
+      → (readAnswer j out ≡ 16) × (readWanted j out ≡ 0) × (readDegree j out ≡ 0) × (readZero j out ≡ 0) × (readOut j out ≡ out)
+
+pub unsound-refused : (j : Job) → (Sound j → ⊥) → Refused j
+unfolding offerAnswer offerJob lotAnswer lotJob lotBytes readAnswer readWanted readDegree readZero readOut outAfter onlyDone
+unsound-refused j unsound = record {
+  offers = λ a. rw fails (refl, refl);
+  lots = λ xs answers. rw fails (refl, refl, refl);
+  reads = λ out. rw fails (refl, refl, refl, refl, refl);
+}
+  where
+    fails : sound? j ≡ false
+    fails = go (sound? j) refl
+      where
+        go : (t : Bool) → sound? j ≡ t → t ≡ false
+        go true e = absurd (unsound (sound-test j .0 e))
+        go false e = refl

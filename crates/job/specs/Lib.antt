@@ -7,6 +7,7 @@ pub mod Demand
 pub mod Standing
 pub mod SamePair
 pub mod OpenLaws
+pub mod OpenDegrees
 pub mod StandingLaws
 pub mod SoundTests
 pub mod Replay

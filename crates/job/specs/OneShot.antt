@@ -5,16 +5,19 @@
 --   counting-rising          all of them count, and they are different
 --   range a                  the points 0, 1, .., a-1
 --   counting-range           of these the usable ones count
+--   smallest-length, smallest-rising   the points that the one-shot takes: as many as are needed, usable, rising, below p
+--   smallest-least           a usable point that it does not take is larger than every one that it takes
 --   one-shot-calls           the one-shot's answer, degree and output are those of the read after opening and offering
 use Prim.Native.Nat.{ℕ, zero, suc, _+_, _<_, _≤_, min}
 use native.Mathlib.Nat.{zero-add}
 use native.Mathlib.Omega.{arith}
+use native.Mathlib.Decide.{ℕ-discrete}
 use mathlib.Core.Bool.{Bool, true, false, cond, _&&_, _||_}
 use mathlib.Core.List.{List, [], _∷_, _++_, append-nil}
 use mathlib.Core.Path.{_≡_, refl, sym, ap, _∙_, subst}
 use lib.Dec.{leb, ltb, eqb}
 use lib.ListN.{length, take, drop, length-take}
-use borrow.Author.Tests.{lt-ltb, le-ltb, le-leb, leb-true, eqb-true}
+use borrow.Author.Tests.{lt-ltb, le-ltb, le-leb, leb-true, eqb-true, eq-eqb, ne-eqb}
 use Rattle.scope.specs.Pair.{Pair, tables}
 use Rattle.scope.specs.Point.{usable, usables, enough, needed, room, smallest}
 use Rattle.scope.specs.Number.{among, openNumber, oneShotNumber, _then_, _gives_otherwise_}
@@ -25,7 +28,7 @@ use Rattle.job.specs.Calls.{written, degreeOf, isZero}
 use Rattle.job.specs.Public.{readAnswer, readOut, readDegree, readZero, shotAnswer, shotOut, shotDegree, shotZero, outAfter, zeroFlag}
 use Rattle.job.specs.Demand.{Call, lot, run, pointsOf, allPoints, counts, counting, distinct, offeredCount}
 use Rattle.job.specs.OpenLaws.{Accepted, accepted}
-use Rattle.job.specs.DemandLaws.{demand-3}
+use Rattle.job.specs.DemandLaws.{among-snoc, demand-3}
 
 abbrev pub Rising : Pair → ℕ → ℕ → List ℕ → Type 0
 Rising P b k [] = b ≤ k
@@ -115,6 +118,51 @@ counting-range P (suc a) l =
     go true u = unfold counting counts in rw (lt-ltb a (P .p) (omega (arith, l)), u) refl
     go false u = unfold counting counts in rw (lt-ltb a (P .p) (omega (arith, l)), u) (append-nil (usables P a))
 
+-- the numbers of a list that rises from b on are not below b
+rising-above : (P : Pair) (xs : List ℕ) (b k a : ℕ) → Rising P b k xs → among a xs ≡ true → b ≤ a
+unfolding among
+rising-above P [] b k a r h = absurd (omega (arith, none-among a h))
+rising-above P (x ∷ xs) b k a r h = go (eqb a x) refl h (rising-above P xs (suc x) k a (r .2))
+  where
+    go : (t : Bool) → eqb a x ≡ t → (t || among a xs) ≡ true → (among a xs ≡ true → suc x ≤ a) → b ≤ a
+    go true q _ _ = omega (arith, eqb-true a x q, r .0)
+    go false q m ih = omega (arith, ih m, r .0)
+
+-- of a rising list, what is not taken is larger than what is
+rising-left : (P : Pair) (xs : List ℕ) (b k n a x : ℕ) → Rising P b k xs → among a xs ≡ true → among a (take n xs) ≡ false
+    → among x (take n xs) ≡ true → x < a
+unfolding among
+rising-left P xs b k zero a x r h out into = absurd (omega (arith, none-among x into))
+rising-left P [] b k (suc n) a x r h out into = absurd (omega (arith, none-among a h))
+rising-left P (y ∷ ys) b k (suc n) a x r h out into =
+    go (eqb a y) (eqb x y) refl h out into (rising-left P ys (suc y) k n a x (r .2))
+  where
+    go : (t u : Bool) → eqb x y ≡ u → (t || among a ys) ≡ true → (t || among a (take n ys)) ≡ false → (u || among x (take n ys)) ≡ true
+        → (among a ys ≡ true → among a (take n ys) ≡ false → among x (take n ys) ≡ true → x < a) → x < a
+    go true u q m o i ih = let z : _≡_ {A = ℕ} 0 1 = cc in absurd (omega arith)
+    go false true q m o i ih = omega (arith, eqb-true x y q, rising-above P ys (suc y) k a (r .2) m)
+    go false false q m o i ih = ih m o i
+
+usables-all : (P : Pair) (k a : ℕ) → a < k → usable P a ≡ true → among a (usables P k) ≡ true
+unfolding usables
+usables-all P zero a l u = absurd (omega arith)
+usables-all P (suc k) a l u = go (usable P k) refl (ℕ-discrete a k) (λ below. usables-all P k a below u)
+  where
+    go : (t : Bool) → usable P k ≡ t → Dec (a ≡ k) → (a < k → among a (usables P k) ≡ true)
+        → among a (cond t (usables P k ++ k ∷ []) (usables P k)) ≡ true
+    go true q (yes e) ih = among-snoc a k (usables P k) ∙ unfold among in rw (eq-eqb a k e) refl
+    go true q (no n) ih = among-snoc a k (usables P k) ∙ unfold among in rw (ne-eqb a k n) (ih (omega (arith, n)))
+    go false q (yes e) ih = let z : _≡_ {A = ℕ} 0 1 = cc in absurd (omega arith)
+    go false q (no n) ih = ih (omega (arith, n))
+
+pub smallest-rising : (P : Pair) → Rising P 0 (P .p) (smallest P)
+unfolding smallest
+smallest-rising P = rising-take P (usables P (P .p)) 0 (P .p) (needed P) (usables-rising P (P .p))
+
+pub smallest-least : (P : Pair) (a x : ℕ) → a < P .p → usable P a ≡ true → among a (smallest P) ≡ false → among x (smallest P) ≡ true → x < a
+unfolding smallest
+smallest-least P a x l u = rising-left P (usables P (P .p)) 0 (P .p) (needed P) a x (usables-rising P (P .p)) (usables-all P (P .p) a l u)
+
 pub smallest-length : (P : Pair) → enough P ≡ true → length (smallest P) ≡ needed P
 unfolding smallest enough
 smallest-length P h =
@@ -133,7 +181,7 @@ module _ (p m e n f : ℕ) (s t answers out : List ℕ) (accepts : openNumber p 
       let q : length (smallest polynomials) ≡ needed polynomials = smallest-length polynomials (accepted p m e n f s t accepts .plenty) in
       rw (le-leb (length (smallest polynomials)) (length answers) (omega (arith, q)))
       (ap (λ (z : List ℕ). length (distinct [] (counting polynomials z))) (append-nil (smallest polynomials))
-      ∙ ap length (counting-rising polynomials (smallest polynomials) p (unfold smallest in rising-take polynomials (usables polynomials p) 0 p (needed polynomials) (usables-rising polynomials p)) (omega arith))
+      ∙ ap length (counting-rising polynomials (smallest polynomials) p (smallest-rising polynomials) (omega arith))
       ∙ q)
 
   pub one-shot-calls : needed polynomials ≤ length answers → room polynomials ≤ length out

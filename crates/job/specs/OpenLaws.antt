@@ -9,7 +9,6 @@
 --   opened-same              the job's pair and the tables' pair have all in common
 --   opened-standing          the job has what a sound record has
 --   tables-same              tables with the same coefficients give pairs with all in common
---   opened-degrees           openings with the same coefficients give one job, whatever degrees in y they declare
 use Prim.Native.Nat.{ℕ, zero, suc, _+_, _*_, _/_, _%_, _≤_, _<_}
 use native.Mathlib.Omega.{arith}
 use native.Mathlib.Decide.{decLe}
@@ -20,7 +19,7 @@ use lib.ListN.{length, getD, replicate, length-replicate, List·getD-eq-default}
 use borrow.Author.Tests.{not-false}
 use Rattle.residue.specs.Prime.{Modulus}
 use Rattle.scope.specs.Pair.{place, size, term, tables}
-use Rattle.scope.specs.Point.{tabulate, enough}
+use Rattle.scope.specs.Point.{enough}
 use Rattle.scope.specs.Number.{outside, composite, tooHigh, misfit, over, noLead, scarce, openNumber}
 use Rattle.scope.specs.Search.{or-false}
 use Rattle.scope.specs.Degree.{Within, tables-within, tabulate-length, tabulate-getD}
@@ -200,22 +199,3 @@ tables-same p m n e e′ f f′ s s′ t t′ hs ht = record {
   left-within = tables-within p m e n f s t;
   right-within = tables-within p m e′ n f′ s′ t′;
 }
-
-pub opened-degrees : (p m n e e′ f f′ : ℕ) (s s′ t t′ : List ℕ)
-    → ((i j : ℕ) → term e s i j ≡ term e′ s′ i j) → ((i j : ℕ) → term f t i j ≡ term f′ t′ i j)
-    → opened p m e n f s t ≡ opened p m e′ n f′ s′ t′
-unfolding opened spread
-opened-degrees p m n e e′ f f′ s s′ t t′ hs ht =
-    let same : SamePair (tables p m e n f s t) (tables p m e′ n f′ s′ t′) = tables-same p m n e e′ f f′ s s′ t t′ hs ht in
-    λ i. record {
-      p = p;
-      m = m;
-      n = n;
-      da = same-degreeA _ _ same i;
-      db = same-degreeB _ _ same i;
-      count = 0;
-      a = tabulate 289 (λ k. hs (k / 17) (k % 17) i);
-      b = tabulate 289 (λ k. ht (k / 17) (k % 17) i);
-      points = replicate 513 0;
-      values = replicate 513 0;
-    }

@@ -3,7 +3,7 @@
 --   RowResult p a b r              the row resultant answers r
 --   PlainResult p a b r            the plain determinant answers r
 --   DivisionResult p row b r row′  division answers r and leaves row′ in the work row
---   DivisorResult a b r            which row divides answers the stretch r
+--   DivisorResult a b r            which row divides answers r: its entries, and where it lies
 --   OpenResult .. r                opening answers r
 --   OfferResult j a r              a single offer answers r
 --   LotResult j xs bytes r bytes′  a lot answers r and leaves bytes′ in the lent answer bytes
@@ -13,12 +13,13 @@ use Prim.Native.Nat.{ℕ, _*_, _<_, _≤_}
 use mathlib.Core.List.{List}
 use mathlib.Core.Path.{_≡_}
 use lib.ListN.{getD}
+use denote.Ref.{RefT}
 use Rattle.euclid.specs.Row.{declared}
 use Rattle.scope.specs.Number.{rowNumber, plainNumber, divisionNumber}
 use Rattle.scope.specs.Answers.{rowValue, rowCount, plainValue, dividedRow, dividedCount}
 use Rattle.scope.specs.Pair.{tables, coefficient}
 use Rattle.scope.specs.Point.{room}
-use Rattle.rows.specs.Which.{lower}
+use Rattle.rows.specs.Which.{lower, first?, pick}
 use Rattle.job.specs.declared.Job.{Job}
 use Rattle.job.specs.declared.JobAnswer.{JobAnswer}
 use Rattle.job.specs.declared.ReadAnswer.{ReadAnswer}
@@ -43,8 +44,10 @@ pub record DivisionResult (p : ℕ) (row b : List ℕ) (r : DivisionAnswer) (row
   pub count : r .count ≡ dividedCount p row b
   pub left : row′ ≡ dividedRow p row b
 
-pub record DivisorResult (a b r : List ℕ) : Type 0 where
-  pub stretch : r ≡ lower a b
+pub record DivisorResult (a b r : RefT (List ℕ)) : Type 0 where
+  pub stretch : r .now ≡ lower (a .now) (b .now)
+  -- it begins where the caller's own row begins
+  pub own : r .ptr ≡ pick (first? (a .now) (b .now)) (a .ptr) (b .ptr)
 
 pub record OpenResult (p m e n f : ℕ) (s t : List ℕ) (r : JobAnswer) : Type 0 where
   pub number : r .number ≡ openAnswer p m e n f s t

@@ -11,6 +11,7 @@ use mathlib.Core.Path.{_≡_, refl, sym, ap, _∙_}
 use mathlib.Core.Logic.{_≢_}
 use lib.ListN.{length}
 use borrow.Author.Tests.{eq-eqb, ne-eqb}
+use denote.Ref.{RefT}
 use Rattle.residue.specs.Residue.{val}
 use Rattle.euclid.specs.Row.{declared, rowDeterminant}
 use Rattle.euclid.specs.Division.{remainder, quotient, count}
@@ -121,13 +122,15 @@ alone : (a : List ℕ) → length (lower a a) ≡ length (trim a)
 alone a = ap length (lower-second a a (omega arith))
 
 -- which row divides, from the true lengths of both
-module _ (a b : List ℕ) (x y : List ℕ) (hx : DivisorResult a a x) (hy : DivisorResult b b y) where
-  pub divisor-first : length x < length y → (_≡_ {A = ℕ} 0 (pick (first? a b) 0 1)) × (length x ≡ length (lower a b))
+module _ (a b x y : RefT (List ℕ)) (hx : DivisorResult a a x) (hy : DivisorResult b b y) where
+  pub divisor-first : length (x .now) < length (y .now)
+      → (_≡_ {A = ℕ} 0 (pick (first? (a .now) (b .now)) 0 1)) × (length (x .now) ≡ length (lower (a .now) (b .now)))
   divisor-first l =
-      let t : length (trim a) < length (trim b) = omega (arith, ap length (hx .stretch), ap length (hy .stretch), alone a, alone b) in
-      (ap (λ (z : Bool). pick z 0 1) (sym (first?-yes a b t)), ap length (hx .stretch) ∙ alone a ∙ ap length (sym (lower-first a b t)))
+      let t : length (trim (a .now)) < length (trim (b .now)) = omega (arith, ap length (hx .stretch), ap length (hy .stretch), alone (a .now), alone (b .now)) in
+      (ap (λ (z : Bool). pick z 0 1) (sym (first?-yes (a .now) (b .now) t)), ap length (hx .stretch) ∙ alone (a .now) ∙ ap length (sym (lower-first (a .now) (b .now) t)))
 
-  pub divisor-second : length y ≤ length x → (_≡_ {A = ℕ} 1 (pick (first? a b) 0 1)) × (length y ≡ length (lower a b))
+  pub divisor-second : length (y .now) ≤ length (x .now)
+      → (_≡_ {A = ℕ} 1 (pick (first? (a .now) (b .now)) 0 1)) × (length (y .now) ≡ length (lower (a .now) (b .now)))
   divisor-second l =
-      let t : length (trim b) ≤ length (trim a) = omega (arith, ap length (hx .stretch), ap length (hy .stretch), alone a, alone b) in
-      (ap (λ (z : Bool). pick z 0 1) (sym (first?-no a b t)), ap length (hy .stretch) ∙ alone b ∙ ap length (sym (lower-second a b t)))
+      let t : length (trim (b .now)) ≤ length (trim (a .now)) = omega (arith, ap length (hx .stretch), ap length (hy .stretch), alone (a .now), alone (b .now)) in
+      (ap (λ (z : Bool). pick z 0 1) (sym (first?-no (a .now) (b .now) t)), ap length (hy .stretch) ∙ alone (b .now) ∙ ap length (sym (lower-second (a .now) (b .now) t)))

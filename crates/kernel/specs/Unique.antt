@@ -1,11 +1,12 @@
--- Each contract fixes the answer and every lent slice at exit: two results that meet it are equal. Which row divides is
--- fixed as a list here; that it is the caller's own stretch is the contract's second clause.
+-- Each contract fixes the answer and every lent slice at exit: two results that meet it are equal. A slice that is handed
+-- back is fixed in its entries and its pointer.
 --
 --   row-unique .. shot-unique     for each public call
 --   plain-agrees                  the plain determinant and the row resultant, where both accept
 use Prim.Native.Nat.{ℕ}
 use mathlib.Core.List.{List}
 use mathlib.Core.Path.{_≡_, sym, _∙_}
+use denote.Ref.{RefT}
 use Rattle.job.specs.declared.Job.{Job}
 use Rattle.job.specs.declared.JobAnswer.{JobAnswer}
 use Rattle.job.specs.declared.ReadAnswer.{ReadAnswer}
@@ -39,8 +40,8 @@ pub division-unique : (p : ℕ) (row b : List ℕ) (r r′ : DivisionAnswer) (le
 division-unique p row b r r′ left left′ h h′ =
     ((λ i. record { number = both (h .number) (h′ .number) i; count = both (h .count) (h′ .count) i }), both (h .left) (h′ .left))
 
-pub divisor-unique : (a b r r′ : List ℕ) → DivisorResult a b r → DivisorResult a b r′ → r ≡ r′
-divisor-unique a b r r′ h h′ = both (h .stretch) (h′ .stretch)
+pub divisor-unique : (a b r r′ : RefT (List ℕ)) → DivisorResult a b r → DivisorResult a b r′ → (r .now ≡ r′ .now) × (r .ptr ≡ r′ .ptr)
+divisor-unique a b r r′ h h′ = (both (h .stretch) (h′ .stretch), both (h .own) (h′ .own))
 
 pub open-unique : (p m e n f : ℕ) (s t : List ℕ) (r r′ : JobAnswer) → OpenResult p m e n f s t r → OpenResult p m e n f s t r′ → r ≡ r′
 open-unique p m e n f s t r r′ h h′ = job-path r r′ (both (h .number) (h′ .number)) (both (h .job) (h′ .job))

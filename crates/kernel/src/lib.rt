@@ -1,8 +1,6 @@
 // The kernel's public calls. None has a `requires`: every input gets its number, and a refused call changes nothing.
 // What each answers and leaves behind is a definition of the crates scope and job; the records named in the contracts
 // gather it (specs/Results.antt).
-ghost use mathlib.Core.Path.{_≡_};
-ghost use Rattle.rows.specs.Which.{first?, pick};
 ghost use Rattle.kernel.specs.Results.{RowResult, PlainResult, DivisionResult, DivisorResult, OpenResult, OfferResult, LotResult, ReadResult, ShotResult};
 use job::Job;
 use job::JobAnswer;
@@ -86,8 +84,7 @@ pub fn divide(p: u32, row: &mut [u32], b: &[u32]) -> DivisionAnswer
 
 // Which row divides: the stretch of the caller's own row, of lower true degree, cut after its last nonzero entry.
 pub fn divisor<'a>(a: &'a [u32], b: &'a [u32]) -> &'a [u32]
-    ensures { λ r. ⌜ DivisorResult (now (a .entry)) (now (b .entry)) (now r) ⌝ }
-    ensures { λ r. ⌜ r .ptr ≡ pick (first? (now (a .entry)) (now (b .entry))) (a .entry .ptr) (b .entry .ptr) ⌝ }
+    ensures { λ r. ⌜ DivisorResult (a .entry) (b .entry) r ⌝ }
 {
     rows::divisor(a, b)
 }

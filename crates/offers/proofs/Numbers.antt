@@ -1,7 +1,6 @@
 -- The number of a single offer, and the job after it, by the tests that the code makes.
 --
 --   stored-value     the record with a point and its value in the next slots is the job with the point kept
---   offer-good       a point with the number 0 is usable
 --   Offered j a r k  the offer of a answers r and leaves k
 --   offer-refused    a refused point; offer-keeps: a point kept; offer-surplus: a surplus point
 --   offer-low        an offer's number fits a byte
@@ -18,7 +17,6 @@ use Rattle.job.specs.declared.Job.{Job}
 use Rattle.job.specs.Job.{pairOf, keptPoints, stored}
 use Rattle.job.specs.Calls.{agrees, offerNumber, offered}
 use Rattle.job.specs.StandingLaws.{kept-offer, offered-kept, offered-else}
-use Rattle.scope.specs.TestLaws.{pointNumber-zero}
 
 pub stored-value : (j : Job) (a : ℕ) {v : ℕ} → v ≡ kept (pairOf j) a
     → _≡_ {A = Job}
@@ -71,9 +69,6 @@ cond-low true r s hr hs = hr
 cond-low false r s hr hs = hs
 
 module _ (j : Job) (a : ℕ) where
-  pub offer-good : {r : ℕ} → r ≡ pointNumber (pairOf j) (keptPoints j) a → r ≡ 0 → usable (pairOf j) a ≡ true
-  offer-good e z = pointNumber-zero (pairOf j) (keptPoints j) a .0 (sym e ∙ z) .2
-
   abbrev pub Offered : ℕ → Job → Type 0
   Offered r k = (r ≡ offerNumber j a) × (k ≡ offered j a)
 

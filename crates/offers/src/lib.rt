@@ -3,7 +3,6 @@
 use job::Job;
 use job::JobAnswer;
 ghost use mathlib.Core.Path.{_≡_};
-ghost use mathlib.Core.Bool.{true};
 ghost use mathlib.Core.List.{_++_};
 ghost use Prim.Native.Nat.{_<_, _≤_};
 ghost use lib.ListN.{length, take, drop};
@@ -16,7 +15,7 @@ ghost use Rattle.job.specs.Job.{pairOf, keptPoints, stored};
 ghost use Rattle.job.specs.Calls;
 ghost use Rattle.job.specs.Standing.{Standing};
 
-// The value kept at a usable point: the row resultant of the two polynomials there
+// The value kept at a point: the determinant of the two polynomials there, at their declared degrees
 pub fn kept_at(
     p: u32,
     ta: &[u32],
@@ -31,14 +30,13 @@ pub fn kept_at(
     requires { ⌜ Prime p ⌝ }
     requires { ⌜ Table m da (now ta) ⌝ }
     requires { ⌜ Table n db (now tb) ⌝ }
-    requires { ⌜ usable (tables p m 16 n 16 (now ta) (now tb)) a ≡ true ⌝ }
     ensures { λ r. ⌜ r ≡ kept (tables p m 16 n 16 (now (ta .entry)) (now (tb .entry))) a ⌝ }
 {
     let mut u = [0u32; 17];
     let mut w = [0u32; 17];
     points::row_at(p, ta, m, da, a, &mut u);
     points::row_at(p, tb, n, db, a, &mut w);
-    rows::resultant_in(p, &mut u[..m + 1], &mut w[..n + 1]).value
+    rows::determinant_in(p, &mut u[..m + 1], &mut w[..n + 1])
 }
 
 // Whether a is among the first count points
@@ -54,10 +52,9 @@ pub fn is_among(points: &[u32], count: usize, a: u32) -> bool
     false
 }
 
-// The value kept at a usable point of a sound job
+// The value kept at a point of a sound job
 fn kept_value(j: Job, a: u32) -> u32
     requires { ⌜ Standing j ⌝ }
-    requires { ⌜ usable (pairOf j) a ≡ true ⌝ }
     ensures { λ r. ⌜ r ≡ kept (pairOf j) a ⌝ }
 {
     let ta = j.a;
@@ -122,7 +119,6 @@ pub fn needed_for(j: Job) -> u32
 pub fn agrees(j: Job, a: u32) -> bool
     requires { ⌜ Standing j ⌝ }
     requires { ⌜ j .count ≡ needed (pairOf j) ⌝ }
-    requires { ⌜ usable (pairOf j) a ≡ true ⌝ }
     ensures { λ r. ⌜ r ≡ Calls.agrees j a ⌝ }
 {
     let count = j.count as usize;
@@ -136,7 +132,6 @@ pub fn agrees(j: Job, a: u32) -> bool
 // The job with the point a and its value kept
 fn store(j: Job, a: u32) -> Job
     requires { ⌜ Standing j ⌝ }
-    requires { ⌜ usable (pairOf j) a ≡ true ⌝ }
     requires { ⌜ j .count < needed (pairOf j) ⌝ }
     ensures { λ r. ⌜ r ≡ stored j a ⌝ }
 {

@@ -1,6 +1,5 @@
 -- The usable points below a number.
 --
---   NextUsable P p start r          r is the smallest usable point from start on, or p where there is none below p
 --   usables-skip, usables-take      one number more: not usable, usable
 --   usables-front                   fewer numbers give a front of the list
 --   usables-more                    more numbers give no fewer usable points
@@ -15,12 +14,6 @@ use lib.ListN.{length, take, length-append}
 use lib.Seq.{take-at}
 use Rattle.scope.specs.Pair.{Pair}
 use Rattle.scope.specs.Point.{usable, usables, needed, smallest}
-
-pub record NextUsable (P : Pair) (p start r : ℕ) : Type 0 where
-  pub after : start ≤ r
-  pub within : r ≤ p
-  pub passed : usables P r ≡ usables P start
-  pub good : r < p → usable P r ≡ true
 
 module _ (P : Pair) where
   pub usables-skip : (k : ℕ) → usable P k ≡ false → usables P (suc k) ≡ usables P k

@@ -15,7 +15,6 @@ ghost use Rattle.scope.specs.Pair.{term, tables, some, occurs, largest};
 ghost use Rattle.scope.specs.Point.{tabulate, rowAt, usable, usables};
 ghost use Rattle.scope.specs.Recovery.{Different};
 ghost use Rattle.points.specs.Table.{Table};
-ghost use Rattle.points.specs.Usables.{NextUsable};
 ghost use Rattle.points.specs.Step.{valueOf, weightOf, plusMultiple, timesLinear};
 
 // a * b + c modulo p, with one remainder
@@ -105,33 +104,6 @@ pub fn enough_usable(
         a += 1;
     }
     true
-}
-
-// The smallest usable point from `from` on; p where there is none
-pub fn next_usable(
-    p: u32,
-    ta: &[u32],
-    m: usize,
-    da: usize,
-    tb: &[u32],
-    n: usize,
-    db: usize,
-    from: u32,
-) -> u32
-    requires { ⌜ 0 < p ⌝ }
-    requires { ⌜ Table m da (now ta) ⌝ }
-    requires { ⌜ Table n db (now tb) ⌝ }
-    requires { ⌜ from ≤ p ⌝ }
-    ensures { λ r. ⌜ NextUsable (tables p m 16 n 16 (now (ta .entry)) (now (tb .entry))) p from r ⌝ }
-{
-    let mut a = from;
-    while a < p {
-        if usable_at(p, ta, m, da, tb, n, db, a) {
-            return a;
-        }
-        a += 1;
-    }
-    a
 }
 
 // Whether y^j stands in some row up to m

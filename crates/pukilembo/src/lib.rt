@@ -1,5 +1,6 @@
 // The calls as C sees them: numbers, slices as a pointer and a length, and records of whole numbers by value.
-// Each function is one public call of the crate kernel.
+// Each function is one public call of the crate kernel; which row divides, where a slice cannot be handed back, answers
+// the side and the length of the stretch that the call would hand back.
 ghost use mathlib.Core.Path.{_≡_};
 ghost use lib.ListN.{length};
 ghost use Rattle.rows.specs.Which.{lower, first?, pick};

@@ -2,6 +2,7 @@
 pub mod Bounds
 pub mod Chain
 pub mod Copied
+pub mod Fall
 pub mod Monic
 pub mod Order
 pub mod Places

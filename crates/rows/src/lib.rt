@@ -1,4 +1,5 @@
-// Rows modulo p: the multiply-and-subtract, division in the work row, which row divides, and the row resultant.
+// Rows modulo p: the multiply-and-subtract, division in the work row, which row divides, the row resultant, and the
+// determinant at declared degrees.
 ghost use mathlib.Core.Path.{_≡_};
 ghost use mathlib.Core.List.{_++_, map};
 ghost use Prim.Native.Nat.{ℕ, _*_, _%_, _<_, _≤_};
@@ -7,12 +8,12 @@ ghost use Rattle.ring.specs.Ring.{Ring, pow, sign};
 ghost use Rattle.residue.specs.Prime.{Prime};
 ghost use Rattle.residue.specs.Residue.{residues, res, val};
 ghost use Rattle.residue.specs.Inverse;
-ghost use Rattle.euclid.specs.Row.{declared, degree, trim};
+ghost use Rattle.euclid.specs.Row.{declared, degree, trim, rowDeterminant};
 ghost use Rattle.euclid.specs.RowLaws.{Below, Ended};
 ghost use Rattle.euclid.specs.Division.{less, remainder, quotient, count};
 ghost use Rattle.euclid.specs.Sequence.{monic, sequence, formula, steps, rowResultant, rowSteps};
 ghost use Rattle.euclid.specs.FollowingLaws.{Neighbours, next};
-ghost use Rattle.rows.specs.Given.{IsRow};
+ghost use Rattle.rows.specs.Given.{IsRow, IsDeclared};
 ghost use Rattle.rows.specs.Which.{pick, first?, lower};
 ghost use Rattle.rows.specs.Last.{lastRow, rowSequence, Lies};
 
@@ -266,4 +267,53 @@ pub fn resultant(p: u32, a: &[u32], b: &[u32]) -> Found
     copy(&mut u, a);
     copy(&mut w, b);
     resultant_in(p, &mut u[..a.len()], &mut w[..b.len()])
+}
+
+// The determinant at declared degrees m and n, where the first row keeps its degree and the second may fall: to degree k,
+// which brings in lead^(n-k), or to nothing, which leaves 0; where m = 0 it is lead^n
+fn fallen(p: u32, u: &mut [u32], w: &mut [u32]) -> u32
+    requires { ⌜ 2 ≤ p ⌝ }
+    requires { ⌜ Prime p ⌝ }
+    requires { ⌜ IsRow p (now u) ⌝ }
+    requires { ⌜ IsDeclared p (now w) ⌝ }
+    ensures { λ r. ⌜ r ≡ val p (rowDeterminant p (now (u .entry)) (now (w .entry))) ⌝ }
+{
+    let m = u.len() - 1;
+    let n = w.len() - 1;
+    let lead = u[m];
+    if m == 0 {
+        return field::power(p, lead, n as u32);
+    }
+    let len = true_length(w);
+    if len == 0 {
+        return 0;
+    }
+    let k = len - 1;
+    let high = field::power(p, lead, (n - k) as u32);
+    let rest = resultant_in(p, u, &mut w[..len]);
+    field::mul(p, high, rest.value)
+}
+
+// The determinant of Sylvester's matrix at the declared degrees of the two rows, whatever their leading entries are, worked
+// out in them: where the first falls they change places, with the sign (-1)^(mn); where both do it is 0, and 1 if m = n = 0
+pub fn determinant_in(p: u32, u: &mut [u32], w: &mut [u32]) -> u32
+    requires { ⌜ 2 ≤ p ⌝ }
+    requires { ⌜ Prime p ⌝ }
+    requires { ⌜ IsDeclared p (now u) ⌝ }
+    requires { ⌜ IsDeclared p (now w) ⌝ }
+    ensures { λ r. ⌜ r ≡ val p (rowDeterminant p (now (u .entry)) (now (w .entry))) ⌝ }
+{
+    let m = u.len() - 1;
+    let n = w.len() - 1;
+    if u[m] != 0 {
+        if w[n] != 0 {
+            return resultant_in(p, u, w).value;
+        }
+        return fallen(p, u, w);
+    }
+    if w[n] != 0 {
+        let turns = m * n;
+        return signed(p, turns, fallen(p, w, u));
+    }
+    if m + n > 0 { 0 } else { 1 }
 }

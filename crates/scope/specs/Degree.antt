@@ -3,7 +3,7 @@
 --   Within P               A and B have no power of y above their bounds e and f
 --   tables-within          tables give such a pair
 --   above-largest          a coefficient of a power above the largest that occurs is 0
---   determinant-takes      theorem 7: degree at most D, and at every point a the value kept there
+--   determinant-takes      degree at most D, and at every point a the value kept there
 use Prim.Native.Nat.{ℕ, zero, suc, _+_, _<_, _≤_}
 use native.Mathlib.Omega.{arith}
 use native.Mathlib.Decide.{decLt}

@@ -5,7 +5,7 @@
 --   interpolation             any N values at N different points have one polynomial of at most N coefficients
 --   interpolation-unique      and only one
 --   determinant-value         at every point the determinant's value is the one that is kept there
---   recovered                 theorem 8: a polynomial with the kept values at as many different points as are needed
+--   recovered                 a polynomial with the kept values at as many different points as are needed
 --                             is the determinant
 use Prim.Native.Nat.{ℕ, zero, suc, _+_, _<_, _≤_}
 use native.Mathlib.Numerals.{add-one}

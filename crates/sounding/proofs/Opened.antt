@@ -20,7 +20,7 @@ use lib.ListN.{length, getD}
 use borrow.Author.Tests.{eqb-true}
 use Rattle.residue.specs.Prime.{Prime}
 use Rattle.scope.specs.Pair.{term, occurs, largest, tables, degreeA, degreeB, bound}
-use Rattle.scope.specs.Point.{usable, needed, usables, enough}
+use Rattle.scope.specs.Point.{needed, usables, enough}
 use Rattle.points.specs.Table.{Table, table-of}
 use Rattle.job.specs.SoundTests.{done, _also_, conj-each}
 use Rattle.sounding.specs.Parts.{soundTable, soundTables}
@@ -52,9 +52,8 @@ module _ {p m da n db : ℕ} {s t : List ℕ} (o : Opened p m da n db s t) where
   pub usable-asks : (0 < p) × (Table m da s × Table n db t)
   usable-asks = (omega (arith, o .modulus .least), (table-a, table-b))
 
-  pub kept-asks : (a : ℕ) → usable (tables p m 16 n 16 s t) a ≡ true
-      → (2 ≤ p) × (Prime p × (Table m da s × (Table n db t × (usable (tables p m 16 n 16 s t) a ≡ true))))
-  kept-asks a u = (o .modulus .least, (o .modulus .prime, (table-a, (table-b, u))))
+  pub kept-asks : (2 ≤ p) × (Prime p × (Table m da s × Table n db t))
+  kept-asks = (o .modulus .least, (o .modulus .prime, (table-a, table-b)))
 
   pub needed-is : needed (tables p m 16 n 16 s t) ≡ n * da + m * db + 1
   unfolding needed bound degreeA degreeB tables

@@ -11,6 +11,7 @@
 --   resultant-division          nor does adding a multiple of B
 --   resultant-drop-left         A's leading coefficient is 0: (-1)^n b_n times the one of degree one less
 --   resultant-drop-right        B's leading coefficient is 0: a_m times the one of degree one less
+--   resultant-drop-both         both leading coefficients are 0 and m + n > 0: 0
 --   resultant-fall-left         A falls from degree k + d to k: (-1)^(nd) b_n^d times
 --   resultant-fall-right        B falls from degree k + d to k: a_m^d times
 --   resultant-zero-left         A is zero and n > 0: 0
@@ -274,6 +275,17 @@ module _ (R : Ring) where
           ∙ sym (⊗-assoc (sign R (m * suc n)) (sign R m) (a m ⊗ r))
           ∙ ap (λ (z : C). z ⊗ (a m ⊗ r)) even
           ∙ ⊗-left-comm R (sign R (m * n)) (a m) r
+
+  pub resultant-drop-both : (m n : ℕ) (a b : ℕ → C) → 0 < m + n → a m ≡ 𝟘 → b n ≡ 𝟘 → resultant R m n a b ≡ 𝟘
+  resultant-drop-both zero zero a b some ha hb = absurd (omega arith)
+  resultant-drop-both zero (suc n) a b some ha hb =
+      resultant-drop-right zero n a b hb
+      ∙ ap (λ (z : C). z ⊗ resultant R zero n a b) ha
+      ∙ zero-⊗ R (resultant R zero n a b)
+  resultant-drop-both (suc m) n a b some ha hb =
+      resultant-drop-left m n a b ha
+      ∙ ap (λ (z : C). z ⊗ resultant R m n a b) (ap (λ (z : C). sign R n ⊗ z) hb ∙ ⊗-zero R (sign R n))
+      ∙ zero-⊗ R (resultant R m n a b)
 
   pub resultant-fall-right : (k d m : ℕ) (a b : ℕ → C) → ((j : ℕ) → k < j → j ≤ k + d → b j ≡ 𝟘)
       → resultant R m (k + d) a b ≡ pow R (a m) d ⊗ resultant R m k a b

@@ -1,13 +1,13 @@
-//! Random decks, valid, cut, out of order and damaged, against the program `deck`.
+//! The lines of a deck from the scope's rules, and random decks: valid, cut, out of order and damaged, against the
+//! program `deck`.
 
-use crate::definition::{Pair, Table};
-use crate::jobs::Model;
-use crate::kernel::ReadAnswer;
-use crate::random::{Random, PRIMES};
+use crate::model::Model;
+use crate::pair::{Pair, Table};
+use crate::program::{at_once, Ending};
+use crate::random::{Random, LARGE_PRIMES, PRIMES};
 use crate::report::Report;
-use std::io::Write;
+use std::io::Result;
 use std::path::Path;
-use std::process::{Command, Stdio};
 
 const BODY: [usize; 7] = [0, 4, 4, 7, 0, 4, 0];
 
@@ -15,104 +15,146 @@ fn word(bytes: &[u8]) -> u32 {
     u32::from_le_bytes([bytes[0], bytes[1], bytes[2], bytes[3]])
 }
 
-/// The lines of a deck, from the scope's rules; the numbers seen go to the report.
-pub fn lines(deck: &[u8], report: &mut Report) -> String {
-    let mut out = String::new();
-    let mut modulus: Option<u32> = None;
-    let mut tables: Option<[Table; 2]> = None;
-    let mut job: Option<Model> = None;
-    let mut at = 0;
-    while at < deck.len() {
-        let kind = deck[at] as usize;
-        let mut refuse = |r: u32| {
-            report.number(r);
-            format!("deck {r} {at}\n")
-        };
-        if !(1..=6).contains(&kind) {
-            return out + &refuse(21);
+/// What the records so far have left.
+#[derive(Default)]
+struct State {
+    modulus: Option<u32>,
+    tables: Option<[Table; 2]>,
+    job: Option<Model>,
+}
+
+/// What a record brings.
+enum Outcome {
+    /// Text to print, empty where a record has no line; the run goes on.
+    Line(String),
+    /// A refused opening.
+    Closed(u32),
+    /// A deck refusal.
+    Refused(u32),
+}
+
+impl State {
+    fn in_order(&self, kind: usize) -> bool {
+        match kind {
+            1 => self.modulus.is_none(),
+            2 => self.modulus.is_some() && self.tables.is_none(),
+            3 | 4 => self.tables.is_some() && self.job.is_none(),
+            _ => self.job.is_some(),
         }
-        let Some(body) = deck.get(at + 1..at + 1 + BODY[kind]) else {
-            return out + &refuse(22);
+    }
+
+    fn record(&mut self, kind: usize, body: Option<&[u8]>, report: &mut Report) -> Outcome {
+        if !(1..=6).contains(&kind) {
+            return Outcome::Refused(21);
+        }
+        let Some(body) = body else {
+            return Outcome::Refused(22);
         };
-        let in_order = match kind {
-            1 => modulus.is_none(),
-            2 => modulus.is_some() && tables.is_none(),
-            3 | 4 => tables.is_some() && job.is_none(),
-            _ => job.is_some(),
-        };
-        if !in_order {
-            return out + &refuse(23);
+        if !self.in_order(kind) {
+            return Outcome::Refused(23);
         }
         match kind {
-            1 => modulus = Some(word(body)),
-            2 => {
-                if body.iter().any(|&d| d > 16) {
-                    return out + &refuse(4);
-                }
-                let table = |m: u8, e: u8| Table {
-                    m: m as u32,
-                    e: e as u32,
-                    entries: vec![0; (m as usize + 1) * (e as usize + 1)],
-                };
-                tables = Some([table(body[0], body[1]), table(body[2], body[3])]);
+            1 => {
+                self.modulus = Some(word(body));
+                Outcome::Line(String::new())
             }
-            3 => {
-                let sides = tables.as_mut().expect("kind 2 came");
-                let (side, i, j) = (body[0] as usize, body[1] as usize, body[2] as usize);
-                if side > 1 || i > sides[side].m as usize || j > sides[side].e as usize {
-                    return out + &refuse(24);
-                }
-                let e = sides[side].e as usize;
-                sides[side].entries[i * (e + 1) + j] = word(&body[3..]);
+            2 => self.degrees(body),
+            3 => self.place(body),
+            4 => self.open(report),
+            5 => self.offer(word(body), report),
+            _ => self.read(report),
+        }
+    }
+
+    fn degrees(&mut self, body: &[u8]) -> Outcome {
+        if body.iter().any(|&d| d > 16) {
+            return Outcome::Refused(4);
+        }
+        let table = |m: u8, e: u8| {
+            let size = (m as usize + 1) * (e as usize + 1);
+            Table::new(m as u32, e as u32, &vec![0; size])
+        };
+        self.tables = Some([table(body[0], body[1]), table(body[2], body[3])]);
+        Outcome::Line(String::new())
+    }
+
+    fn place(&mut self, body: &[u8]) -> Outcome {
+        let (side, i, j) = (body[0] as usize, body[1] as usize, body[2] as usize);
+        let table = self.tables.as_mut().expect("kind 2 came").get_mut(side);
+        match table {
+            Some(t) if i <= t.m as usize && j <= t.e as usize => {
+                t.entries[i * (t.e as usize + 1) + j] = word(&body[3..]);
+                Outcome::Line(String::new())
             }
-            4 => {
-                let [a, b] = tables.clone().expect("kind 2 came");
-                let pair = Pair {
-                    p: modulus.expect("kind 1 came"),
-                    a,
-                    b,
-                };
-                let number = pair.number();
+            _ => Outcome::Refused(24),
+        }
+    }
+
+    fn open(&mut self, report: &mut Report) -> Outcome {
+        let [a, b] = self.tables.clone().expect("kind 2 came");
+        let p = self.modulus.expect("kind 1 came");
+        match Model::open(&Pair::new(p, a, b)) {
+            Ok(model) => {
+                report.number(0);
+                let line = format!("open 0 {}\n", model.bound);
+                self.job = Some(model);
+                Outcome::Line(line)
+            }
+            Err(number) => Outcome::Closed(number),
+        }
+    }
+
+    fn offer(&mut self, a: u32, report: &mut Report) -> Outcome {
+        let number = self.job.as_mut().expect("kind 4 came").offer(a);
+        report.number(number);
+        Outcome::Line(format!("point {a} {number}\n"))
+    }
+
+    fn read(&mut self, report: &mut Report) -> Outcome {
+        let model = self.job.as_ref().expect("kind 4 came");
+        let mut entries = vec![0u32; model.bound + 1];
+        let answer = model.read(&mut entries);
+        report.number(answer.number);
+        if answer.number == 14 {
+            return Outcome::Line(format!("read 14 {}\n", answer.wanted));
+        }
+        let degree = match answer.zero {
+            1 => "-".to_string(),
+            _ => answer.degree.to_string(),
+        };
+        let list: Vec<String> = entries.iter().map(u32::to_string).collect();
+        Outcome::Line(format!("read 0 {degree} {}\n", list.join(" ")))
+    }
+}
+
+/// The lines of a deck, from the scope's rules; the numbers that came go to the report.
+pub fn lines(deck: &[u8], report: &mut Report) -> String {
+    let mut state = State::default();
+    let mut out = String::new();
+    let mut at = 0;
+    let last = loop {
+        let Some(&kind) = deck.get(at) else {
+            break "end\n".to_string();
+        };
+        let length = BODY.get(kind as usize).copied().unwrap_or(0);
+        let body = deck.get(at + 1..at + 1 + length);
+        match state.record(kind as usize, body, report) {
+            Outcome::Line(line) => out += &line,
+            Outcome::Closed(number) => {
                 report.number(number);
-                if number != 0 {
-                    return out + &format!("open {number}\n");
-                }
-                let model = Model::new(pair);
-                out += &format!("open 0 {}\n", model.bound);
-                job = Some(model);
+                break format!("open {number}\n");
             }
-            5 => {
-                let a = word(body);
-                let number = job.as_mut().expect("kind 4 came").offer(a);
+            Outcome::Refused(number) => {
                 report.number(number);
-                out += &format!("point {a} {number}\n");
-            }
-            _ => {
-                let model = job.as_ref().expect("kind 4 came");
-                let mut entries = vec![0u32; model.bound + 1];
-                let ReadAnswer {
-                    number,
-                    wanted,
-                    degree,
-                    zero,
-                } = model.read(&mut entries);
-                report.number(number);
-                if number == 14 {
-                    out += &format!("read 14 {wanted}\n");
-                } else {
-                    let degree = if zero == 1 {
-                        "-".to_string()
-                    } else {
-                        degree.to_string()
-                    };
-                    let list: Vec<String> = entries.iter().map(u32::to_string).collect();
-                    out += &format!("read 0 {degree} {}\n", list.join(" "));
-                }
+                break format!("deck {number} {at}\n");
             }
         }
-        at += 1 + BODY[kind];
+        at += 1 + length;
+    };
+    if let Some(model) = &state.job {
+        report.judged(model);
     }
-    out + "end\n"
+    out + &last
 }
 
 fn record(kind: u8, body: &[u8]) -> Vec<u8> {
@@ -121,8 +163,14 @@ fn record(kind: u8, body: &[u8]) -> Vec<u8> {
     r
 }
 
+fn place(side: u8, i: u8, j: u8, value: u32) -> Vec<u8> {
+    let mut body = vec![side, i, j];
+    body.extend_from_slice(&value.to_le_bytes());
+    record(3, &body)
+}
+
 /// A deck in order, with faults of every kind mixed in now and then.
-fn deck(random: &mut Random) -> Vec<u8> {
+fn small_deck(random: &mut Random) -> Vec<u8> {
     let p = if random.once_in(15) {
         random.pick(&[0u32, 1, 4, 9, 1 << 31])
     } else {
@@ -137,16 +185,6 @@ fn deck(random: &mut Random) -> Vec<u8> {
         degrees[random.below(4) as usize] = random.pick(&[16, 17, 255]);
     }
     parts.push(record(2, &degrees));
-    let place = |random: &mut Random, side: u8, i: u8, j: u8| {
-        let value = if random.once_in(60) {
-            p
-        } else {
-            random.below(p.max(1) as u64) as u32
-        };
-        let mut body = vec![side, i, j];
-        body.extend_from_slice(&value.to_le_bytes());
-        record(3, &body)
-    };
     for _ in 0..random.below(14) {
         let side = random.below(2) as u8;
         let (m, e) = (
@@ -154,18 +192,20 @@ fn deck(random: &mut Random) -> Vec<u8> {
             degrees[2 * side as usize + 1] as u64,
         );
         let (i, j) = (random.below(m + 1) as u8, random.below(e + 1) as u8);
+        let value = match random.below(60) {
+            0 => p,
+            _ => random.below(p.max(1) as u64) as u32,
+        };
         parts.push(match random.below(60) {
-            0 => place(random, 2, i, j),
-            1 => place(random, side, m as u8 + 1, j),
-            2 => place(random, side, i, e as u8 + 1),
-            _ => place(random, side, i, j),
+            0 => place(2, i, j, value),
+            1 => place(side, m as u8 + 1, j, value),
+            2 => place(side, i, e as u8 + 1, value),
+            _ => place(side, i, j, value),
         });
     }
     if !random.once_in(15) {
         for side in 0..2u8 {
-            let mut body = vec![side, degrees[2 * side as usize], 0];
-            body.extend_from_slice(&(1u32 % p.max(1)).to_le_bytes());
-            parts.push(record(3, &body));
+            parts.push(place(side, degrees[2 * side as usize], 0, 1 % p.max(1)));
         }
     }
     parts.push(record(4, &[]));
@@ -201,40 +241,65 @@ fn deck(random: &mut Random) -> Vec<u8> {
     bytes
 }
 
-fn run(program: &Path, deck: &[u8]) -> std::io::Result<String> {
-    let mut child = Command::new(program)
-        .stdin(Stdio::piped())
-        .stdout(Stdio::piped())
-        .spawn()?;
-    let mut input = child.stdin.take().expect("piped");
-    // the program may stop before it has read everything
-    let _ = input.write_all(deck);
-    drop(input);
-    let output = child.wait_with_output()?;
-    Ok(String::from_utf8_lossy(&output.stdout).into_owned())
-}
-
-pub fn compare(program: &Path, cases: u64, seed: u64) -> Report {
-    let mut random = Random::new(seed);
-    let mut report = Report::new("decks", seed);
-    for _ in 0..cases {
-        let bytes = deck(&mut random);
-        let right = lines(&bytes, &mut report);
-        match run(program, &bytes) {
-            Ok(text) => {
-                report.same("deck", &bytes, text, right);
-            }
-            Err(error) => {
-                report.same(
-                    "the program deck runs",
-                    &program,
-                    error.to_string(),
-                    "it runs".to_string(),
-                );
-                return report;
+/// A deck in order of a larger shape, with points enough for its polynomial.
+fn large_deck(random: &mut Random) -> Vec<u8> {
+    let p = random.pick(&LARGE_PRIMES);
+    let degrees = [0u8; 4].map(|_| match random.below(4) {
+        0 => 16,
+        _ => random.below(17) as u8,
+    });
+    let mut parts = vec![record(1, &p.to_le_bytes()), record(2, &degrees)];
+    let some = 1 + random.below(3);
+    for side in 0..2u8 {
+        let (m, e) = (degrees[2 * side as usize], degrees[2 * side as usize + 1]);
+        for i in 0..=m {
+            for j in 0..=e {
+                if (i, j) == (m, 0) || random.once_in(some) {
+                    let value = 1 + random.below(p as u64 - 1) as u32;
+                    parts.push(place(side, i, j, value));
+                }
             }
         }
     }
-    report.wants(&[0, 2, 3, 4, 6, 7, 8, 10, 11, 12, 14, 21, 22, 23, 24]);
+    parts.push(record(4, &[]));
+    let [m, e, n, f] = degrees.map(u32::from);
+    let mut points: Vec<u32> = (0..n * e + m * f + 4).collect();
+    random.shuffle(&mut points);
+    let early = random.below(points.len() as u64) as usize;
+    for (k, a) in points.iter().enumerate() {
+        parts.push(record(5, &a.to_le_bytes()));
+        if k == early {
+            parts.push(record(6, &[]));
+        }
+    }
+    parts.push(record(6, &[]));
+    parts.concat()
+}
+
+/// A deck of any kind; few are large.
+pub fn deck(random: &mut Random) -> Vec<u8> {
+    match random.below(100) {
+        0 => large_deck(random),
+        _ => small_deck(random),
+    }
+}
+
+fn compare_decks(report: &mut Report, program: &Path, cases: u64, seed: u64) -> Result<()> {
+    let mut random = Random::new(seed);
+    for _ in 0..cases {
+        let bytes = deck(&mut random);
+        let right = lines(&bytes, report);
+        let ending = at_once(program, &bytes)?;
+        report.same("deck", &bytes, ending, Ending::good(right));
+    }
+    report.wants(&[0, 1, 2, 3, 4, 6, 7, 8, 10, 11, 12, 14, 21, 22, 23, 24]);
+    Ok(())
+}
+
+pub fn compare(program: &Path, cases: u64, seed: u64) -> Report {
+    let mut report = Report::seeded("decks", seed);
+    if let Err(error) = compare_decks(&mut report, program, cases, seed) {
+        report.fails("the program deck cannot be run", &error);
+    }
     report
 }

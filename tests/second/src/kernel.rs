@@ -1,5 +1,7 @@
 //! The kernel's C interface, each call behind a safe function.
 
+use crate::pair::Table;
+
 #[repr(C)]
 #[derive(Clone, Copy, PartialEq, Debug)]
 pub struct RowAnswer {
@@ -125,6 +127,18 @@ pub struct ReadAnswer {
     pub zero: u32,
 }
 
+impl ReadAnswer {
+    /// A refusal: every count, degree and value is 0.
+    pub fn refused(number: u32) -> Self {
+        ReadAnswer {
+            number,
+            wanted: 0,
+            degree: 0,
+            zero: 0,
+        }
+    }
+}
+
 mod j {
     use super::*;
     extern "C" {
@@ -164,7 +178,7 @@ mod j {
     }
 }
 
-pub fn open(p: u32, a: &crate::definition::Table, b: &crate::definition::Table) -> JobAnswer {
+pub fn open(p: u32, a: &Table, b: &Table) -> JobAnswer {
     let (s, t) = (&a.entries, &b.entries);
     unsafe {
         j::pukilembo_open(
@@ -201,12 +215,7 @@ pub fn read(job: Job, out: &mut [u32]) -> ReadAnswer {
     unsafe { j::pukilembo_read(job, out.as_mut_ptr(), out.len()) }
 }
 
-pub fn one_shot(
-    p: u32,
-    a: &crate::definition::Table,
-    b: &crate::definition::Table,
-    out: &mut [u32],
-) -> ReadAnswer {
+pub fn one_shot(p: u32, a: &Table, b: &Table, out: &mut [u32]) -> ReadAnswer {
     let (s, t) = (&a.entries, &b.entries);
     unsafe {
         j::pukilembo_one_shot(

@@ -1,6 +1,6 @@
 //! `second [CASES [SEED]]` compares the kernel with the definition; the seed is printed, and gives the same cases again.
 
-use second::{decks, edges, jobs, known, rows};
+use second::{decks, delivery, edges, faults, jobs, known, row_runs, rows, stored};
 use std::path::Path;
 
 fn main() {
@@ -14,13 +14,19 @@ fn main() {
         }
     };
     let (cases, seed) = (number(2000), number(20_261_115));
-    let deck = Path::new(env!("CARGO_MANIFEST_DIR")).join("../../target/bin/deck");
+    let root = Path::new(env!("CARGO_MANIFEST_DIR")).join("../..");
+    let deck = root.join("target/bin/deck");
+    let stored = stored::decks(&root).expect("the stored decks can be read");
     let reports = [
         known::compare(),
+        row_runs::compare(&root),
         edges::compare(),
         rows::compare(4 * cases, seed),
         jobs::compare(cases, seed),
+        stored::compare(&stored),
         decks::compare(&deck, cases, seed),
+        delivery::compare(&deck, &stored, cases / 20, seed),
+        faults::compare(&deck, &stored),
     ];
     let mut passed = 0;
     let mut failed = 0;

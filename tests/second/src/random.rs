@@ -25,6 +25,12 @@ impl Random {
         self.below(n) == 0
     }
 
+    pub fn shuffle<T>(&mut self, list: &mut [T]) {
+        for k in (1..list.len()).rev() {
+            list.swap(k, self.below(k as u64 + 1) as usize);
+        }
+    }
+
     pub fn pick<T: Copy>(&mut self, from: &[T]) -> T {
         from[self.below(from.len() as u64) as usize]
     }
@@ -49,3 +55,6 @@ pub const PRIMES: [u32; 16] = [
     2_147_483_629,
     2_147_483_647,
 ];
+
+/// Primes with points enough for the largest shape, and 521, which has hardly enough.
+pub const LARGE_PRIMES: [u32; 6] = [521, 1031, 65537, 1_000_003, 2_147_483_629, 2_147_483_647];

@@ -1,6 +1,6 @@
 //! The row calls against the definition, on random and degenerate rows.
 
-use crate::definition::{divide, division_number, row_determinant, row_number, steps};
+use crate::definition::{add, divide, division_number, mul, row_determinant, row_number, steps};
 use crate::kernel::{self, DivisionAnswer, PlainAnswer, RowAnswer, Stretch};
 use crate::random::{Random, PRIMES};
 use crate::report::Report;
@@ -59,7 +59,7 @@ fn product(p: u32, a: &[u32], b: &[u32]) -> Vec<u32> {
     let mut r = vec![0u32; a.len() + b.len() - 1];
     for (i, &x) in a.iter().enumerate() {
         for (k, &y) in b.iter().enumerate() {
-            r[i + k] = ((r[i + k] as u64 + x as u64 * y as u64 % p as u64) % p as u64) as u32;
+            r[i + k] = add(p, r[i + k], mul(p, x, y));
         }
     }
     r
@@ -69,94 +69,105 @@ fn true_length(r: &[u32]) -> usize {
     r.iter().rposition(|&x| x != 0).map_or(0, |k| k + 1)
 }
 
+/// What the row resultant answers. The steps never exceed m*n.
+pub fn row_answer(p: u32, a: &[u32], b: &[u32]) -> RowAnswer {
+    let number = row_number(p, a, b);
+    if number != 0 {
+        return RowAnswer {
+            number,
+            value: 0,
+            steps: 0,
+        };
+    }
+    let steps = steps(p, a, b);
+    assert!(steps as usize <= (a.len() - 1) * (b.len() - 1));
+    RowAnswer {
+        number,
+        value: row_determinant(p, a, b),
+        steps,
+    }
+}
+
+/// What the plain determinant answers.
+pub fn plain_answer(p: u32, a: &[u32], b: &[u32]) -> PlainAnswer {
+    let RowAnswer { number, value, .. } = row_answer(p, a, b);
+    if number == 0 && a.len() + b.len() - 2 > 6 {
+        return PlainAnswer {
+            number: 17,
+            value: 0,
+        };
+    }
+    PlainAnswer { number, value }
+}
+
+/// What the division answers, and the work row afterwards.
+pub fn division_answer(p: u32, row: &[u32], b: &[u32]) -> (DivisionAnswer, Vec<u32>) {
+    let number = division_number(p, row, b);
+    if number != 0 {
+        return (DivisionAnswer { number, count: 0 }, row.to_vec());
+    }
+    let (mut after, quotient) = divide(p, row, b);
+    after.extend(quotient);
+    let d = b.len() - 1;
+    let count = (row.len().saturating_sub(d) * d) as u32;
+    (DivisionAnswer { number, count }, after)
+}
+
+/// Which row divides.
+pub fn divisor_answer(a: &[u32], b: &[u32]) -> Stretch {
+    let (la, lb) = (true_length(a), true_length(b));
+    if la < lb {
+        Stretch {
+            side: 0,
+            length: la,
+        }
+    } else {
+        Stretch {
+            side: 1,
+            length: lb,
+        }
+    }
+}
+
 pub fn compare(cases: u64, seed: u64) -> Report {
     let mut random = Random::new(seed);
-    let mut report = Report::new("rows", seed);
+    let mut report = Report::seeded("rows", seed);
     for _ in 0..cases {
         let p = modulus(&mut random);
         let longest = random.pick(&[3, 5, 17]);
         let (a, b) = two_rows(&mut random, p, longest);
-        let case = (p, a.clone(), b.clone());
+        let case = (p, &a, &b);
 
-        let number = row_number(p, &a, &b);
-        report.number(number);
-        let right = if number == 0 {
-            RowAnswer {
-                number,
-                value: row_determinant(p, &a, &b),
-                steps: steps(p, &a, &b),
-            }
-        } else {
-            RowAnswer {
-                number,
-                value: 0,
-                steps: 0,
-            }
-        };
+        let right = row_answer(p, &a, &b);
+        report.number(right.number);
         report.same(
             "row resultant",
             &case,
             kernel::row_resultant(p, &a, &b),
             right,
         );
-        if number == 0 {
-            let most = ((a.len() - 1) * (b.len() - 1)) as u32;
-            report.same("steps at most m*n", &case, right.steps <= most, true);
-        }
 
-        let plain = if number == 0 && a.len() + b.len() - 2 > 6 {
-            17
-        } else {
-            number
-        };
-        report.number(plain);
-        let value = if plain == 0 {
-            row_determinant(p, &a, &b)
-        } else {
-            0
-        };
+        let right = plain_answer(p, &a, &b);
+        report.number(right.number);
         report.same(
             "plain determinant",
             &case,
             kernel::plain_determinant(p, &a, &b),
-            PlainAnswer {
-                number: plain,
-                value,
-            },
+            right,
         );
 
-        let number = division_number(p, &a, &b);
-        report.number(number);
+        let right = division_answer(p, &a, &b);
+        report.number(right.0.number);
         let mut work = a.clone();
         let answer = kernel::divide(p, &mut work, &b);
-        let (after, count) = if number == 0 {
-            let (mut rest, quotient) = divide(p, &a, &b);
-            let d = b.len() - 1;
-            rest.extend(quotient);
-            (rest, (a.len().saturating_sub(d) * d) as u32)
-        } else {
-            (a.clone(), 0)
-        };
-        report.same(
-            "division",
-            &case,
-            (answer, work),
-            (DivisionAnswer { number, count }, after),
-        );
+        report.same("division", &case, (answer, work), right);
 
-        let (la, lb) = (true_length(&a), true_length(&b));
-        let right = if la < lb {
-            Stretch {
-                side: 0,
-                length: la,
-            }
-        } else {
-            Stretch {
-                side: 1,
-                length: lb,
-            }
-        };
-        report.same("which row divides", &case, kernel::divisor(&a, &b), right);
+        report.same(
+            "which row divides",
+            &case,
+            kernel::divisor(&a, &b),
+            divisor_answer(&a, &b),
+        );
     }
     report.wants(&[0, 2, 3, 4, 5, 6, 7, 15, 17]);
     report

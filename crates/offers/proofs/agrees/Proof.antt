@@ -30,13 +30,13 @@ slice-aggregate-value-at : tie.Need-slice-aggregate-value-at
 slice-aggregate-value-at c = search needs
 
 sub-value-at : tie.Need-sub-value-at
-sub-value-at c = let s = c .before .before .before .before .before .before .before .before .before in omega (arith, count-some (s .args .j) (s .pre .1 .0))
+sub-value-at c = let s = c .before .before .before .before .before .before .before .before .before in omega (arith, count-some (s .args .j) (s .pre .1))
 
 value-at-requires : tie.Need-value-at-requires
 value-at-requires c κs =
     let s = c .before .before .before .before .before .before .before .before .before in
     let j = s .args .j in
-    (omega (arith, s .pre .0 .modulus .least), omega (arith, count-fits j (s .pre .0), count-some j (s .pre .1 .0), c .before .before .interpolate .kept .1 .1 .1 .1 .0))
+    (omega (arith, s .pre .0 .modulus .least), omega (arith, count-fits j (s .pre .0), count-some j (s .pre .1), c .before .before .interpolate .kept .1 .1 .1 .1 .0))
 
 kept-value-requires : tie.Need-kept-value-requires
 kept-value-requires c κs = search needs
@@ -44,7 +44,7 @@ kept-value-requires c κs = search needs
 returns : tie.Need-returns
 returns c =
     let s = c .before .before .before .before .before .before .before .before .before .before .before in
-    table-agrees (s .args .j) (s .pre .1 .0) (s .args .a) _ (c .before .before .before .before .interpolate .ensures) (c .before .value-at .ensures) (c .kept-value .ensures)
+    table-agrees (s .args .j) (s .pre .1) (s .args .a) _ (c .before .before .before .before .interpolate .ensures) (c .before .value-at .ensures) (c .kept-value .ensures)
 
 pub agrees-spec : {M : Type 1} → statement M
 agrees-spec =

@@ -1,4 +1,4 @@
--- `offers::kept_at`: each work row holds a row of the pair at the point, and what is returned is their row resultant.
+-- `offers::kept_at`: each work row holds a row of the pair at the point, and what is returned is their determinant.
 use borrow.Author.Needs.{needs}
 use Prim.Native.Nat.{_+_}
 use native.Mathlib.Omega.{arith}
@@ -21,7 +21,7 @@ slice-aggregate-row-at-2 c = search needs
 
 row-at-requires-2 : tie.Need-row-at-requires-2
 row-at-requires-2 c κs =
-    let s = c .before .before .before .before .before .before in (omega (arith, s .pre .0), (s .pre .1 .1 .1 .0, omega (arith, s .pre .1 .1 .1 .0 .rows)))
+    let s = c .before .before .before .before .before .before in (omega (arith, s .pre .0), (s .pre .1 .1 .1, omega (arith, s .pre .1 .1 .1 .rows)))
 
 add-u : tie.Need-add-u
 add-u c = search needs
@@ -41,14 +41,13 @@ rows-at c =
       least = s .pre .0;
       prime = s .pre .1 .0;
       low-m = s .pre .1 .1 .0 .rows;
-      low-n = s .pre .1 .1 .1 .0 .rows;
-      good = s .pre .1 .1 .1 .1;
+      low-n = s .pre .1 .1 .1 .rows;
       first = row-front (s .args .p) (s .args .m) (s .args .a) (term 16 (now (s .args .ta))) _ (c .before .before .before .before .row-at .ensures);
       second = row-front (s .args .p) (s .args .n) (s .args .a) (term 16 (now (s .args .tb))) _ (c .before .row-at2 .ensures);
     }
 
-slice-aggregate-resultant-in : tie.Need-slice-aggregate-resultant-in
-slice-aggregate-resultant-in c = row-long _ _ _ _ (rows-at (c .before) .first)
+slice-aggregate-determinant-in : tie.Need-slice-aggregate-determinant-in
+slice-aggregate-determinant-in c = row-long _ _ _ _ (rows-at (c .before) .first)
 
 add-w : tie.Need-add-w
 add-w c = search needs
@@ -56,15 +55,15 @@ add-w c = search needs
 array-borrow-prefix-w : tie.Need-array-borrow-prefix-w
 array-borrow-prefix-w c = search needs
 
-slice-aggregate-resultant-in-2 : tie.Need-slice-aggregate-resultant-in-2
-slice-aggregate-resultant-in-2 c = row-long _ _ _ _ (rows-at (c .before .before) .second)
+slice-aggregate-determinant-in-2 : tie.Need-slice-aggregate-determinant-in-2
+slice-aggregate-determinant-in-2 c = row-long _ _ _ _ (rows-at (c .before .before) .second)
 
-resultant-in-requires : tie.Need-resultant-in-requires
-resultant-in-requires c κs =
+determinant-in-requires : tie.Need-determinant-in-requires
+determinant-in-requires c κs =
     let h = rows-at (c .before .before) in (h .least, (h .prime, (first-row h, second-row h)))
 
 returns : tie.Need-returns
-returns c = c .before .before .resultant-in .ensures .0 ∙ rows-kept (rows-at (c .before .before .before .before .before))
+returns c = c .before .before .determinant-in .ensures ∙ rows-kept (rows-at (c .before .before .before .before .before))
 
 pub kept-at-spec : {M : Type 1} → statement M
 kept-at-spec =
@@ -76,9 +75,9 @@ kept-at-spec =
     row-at-requires-2
     add-u
     array-borrow-prefix-u
-    slice-aggregate-resultant-in
+    slice-aggregate-determinant-in
     add-w
     array-borrow-prefix-w
-    slice-aggregate-resultant-in-2
-    resultant-in-requires
+    slice-aggregate-determinant-in-2
+    determinant-in-requires
     returns)

@@ -29,7 +29,7 @@ unfolding pairOf tables
 kept-at-requires c κs =
     let s = c .before .before .before .before .before .before .before .before in
     let j = s .args .j in
-    (s .pre .0 .modulus .least, (s .pre .0 .modulus .prime, (table-a j (s .pre .0), (table-b j (s .pre .0), s .pre .1))))
+    (s .pre .modulus .least, (s .pre .modulus .prime, (table-a j (s .pre), table-b j (s .pre))))
 
 returns : tie.Need-returns
 unfolding pairOf tables

@@ -4,9 +4,9 @@ use Prim.Native.Nat.{_<_, _≤_}
 use native.Mathlib.Omega.{arith}
 use mathlib.Core.Bool.{Bool, true, false, cond}
 use mathlib.Core.Path.{_≡_, sym, _∙_}
-use Rattle.scope.specs.Point.{usable, needed}
+use Rattle.scope.specs.Point.{needed}
 use Rattle.job.specs.Job.{pairOf}
-use Rattle.offers.proofs.Numbers.{Offered, offer-good, offer-refused, offer-keeps, offer-surplus}
+use Rattle.offers.proofs.Numbers.{Offered, offer-refused, offer-keeps, offer-surplus}
 use Rattle.offers.proofs.offer_sound.Statement.{statement}
 use Rattle.offers.proofs.offer_sound.Tie as tie
 
@@ -19,9 +19,6 @@ returns c = offer-refused _ _ (c .before .point-number .ensures) (c .if1 .taken)
 needed-for-requires : tie.Need-needed-for-requires
 needed-for-requires c κs = search needs
 
-good : (c : tie.Else1) → usable (pairOf (c .before .before .args .j)) (c .before .before .args .a) ≡ true
-good c = offer-good _ _ (c .before .point-number .ensures) (c .if1 .left)
-
 few : (c : tie.Then2) → let j = c .before .before .before .before .before .args .j in j .count < needed (pairOf j)
 few c = omega (arith, c .if2 .taken, c .before .before .needed-for .ensures)
 
@@ -29,7 +26,7 @@ full : (c : tie.Else2) → let j = c .before .before .before .before .before .ar
 full c = omega (arith, c .if2 .left, c .before .before .needed-for .ensures)
 
 store-requires : tie.Need-store-requires
-store-requires c κs = (c .before .before .before .before .before .pre, (good (c .before .before .before), few c))
+store-requires c κs = (c .before .before .before .before .before .pre, few c)
 
 returns-2 : tie.Need-returns-2
 returns-2 c =
@@ -38,7 +35,7 @@ returns-2 c =
 
 agrees-requires : tie.Need-agrees-requires
 agrees-requires c κs =
-    let s = c .before .before .before .before .before in (s .pre, (omega (arith, s .pre .few, full c), good (c .before .before .before)))
+    let s = c .before .before .before .before .before in (s .pre, omega (arith, s .pre .few, full c))
 
 -- whichever way the comparison goes
 surplus : (c : tie.After-agrees) (t : Bool) → c .agrees .result ≡ t

@@ -16,16 +16,16 @@ mul-k : tie.Need-mul-k
 mul-k c = search needs
 
 element-write-k : tie.Need-element-write-k
-element-write-k c = let s = c .before .before in omega (arith, slot-free (s .args .j) (s .pre .0) (s .pre .1 .1))
+element-write-k c = let s = c .before .before in omega (arith, slot-free (s .args .j) (s .pre .0) (s .pre .1))
 
 mul-k-2 : tie.Need-mul-k-2
 mul-k-2 c = search needs
 
 element-write-k-2 : tie.Need-element-write-k-2
-element-write-k-2 c = let s = c .before .before in omega (arith, slot-free (s .args .j) (s .pre .0) (s .pre .1 .1))
+element-write-k-2 c = let s = c .before .before in omega (arith, slot-free (s .args .j) (s .pre .0) (s .pre .1))
 
 add-k : tie.Need-add-k
-add-k c = let s = c .before .before .before in omega (arith, slot-free (s .args .j) (s .pre .0) (s .pre .1 .1))
+add-k c = let s = c .before .before .before in omega (arith, slot-free (s .args .j) (s .pre .0) (s .pre .1))
 
 returns : tie.Need-returns
 returns c = let s = c .before .before .before in stored-value (s .args .j) (s .args .a) (c .before .kept-value .ensures)

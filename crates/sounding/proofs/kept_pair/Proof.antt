@@ -39,8 +39,7 @@ shared-slice-read-result : tie.Need-shared-slice-read-result
 shared-slice-read-result c = search needs
 
 kept-at-requires : tie.Need-kept-at-requires
-kept-at-requires c κs =
-    kept-asks (c .before .before .before .before .before .before .before .before .before .before .before .pre .0) _ (sym (c .before .before .usable-at .ensures) ∙ not-false _ (c .before .if3 .left))
+kept-at-requires c κs = kept-asks (c .before .before .before .before .before .before .before .before .before .before .before .pre .0)
 
 returns-4 : tie.Need-returns-4
 unfolding tables

@@ -1,7 +1,7 @@
 //! Measures the kernel beside the same steps in Rust: same input, same run, same machine.
 
-use second::definition::Table;
 use second::kernel::{self, Job};
+use second::pair::Table;
 use second::random::Random;
 use second::same_steps;
 use std::hint::black_box;
@@ -177,7 +177,7 @@ fn deck(shot: Duration) {
         });
         let output = child.wait_with_output().expect("deck ends");
         writer.join().expect("written").expect("taken");
-        assert!(output.stdout.ends_with(b"end\n"));
+        assert!(output.status.success() && output.stdout.ends_with(b"end\n"));
     });
     println!(
         "deck of 513 points at the largest shape: {:.0} us, {:.2} times the one-shot",

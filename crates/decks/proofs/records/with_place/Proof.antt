@@ -2,6 +2,7 @@
 use mathlib.Core.Path.{refl}
 use native.Mathlib.Omega.{arith}
 use borrow.Author.Tests.{eq-eqb, ne-eqb}
+use Rattle.scope.specs.Pair.{place}
 use Rattle.decks.specs.Deck.{withPlace}
 use borrow.Author.Needs.{needs}
 use Rattle.decks.proofs.records.with_place.Statement.{statement}
@@ -35,7 +36,7 @@ element-write-next : tie.Need-element-write-next
 element-write-next c = search needs
 
 returns : tie.Need-returns
-unfolding withPlace
+unfolding withPlace place
 returns c =
     let side = c .before .before .before .before .byte-at in
     rw (← side .ensures .0, eq-eqb (side .result) 0 (omega arith), c .before .before .before .byte-at2 .ensures .0, c .before .before .byte-at3 .ensures .0, c .before .number4 .ensures) refl
@@ -47,7 +48,7 @@ element-write-next-2 : tie.Need-element-write-next-2
 element-write-next-2 c = search needs
 
 returns-2 : tie.Need-returns-2
-unfolding withPlace
+unfolding withPlace place
 returns-2 c =
     let side = c .before .before .before .before .byte-at in
     rw (← side .ensures .0, ne-eqb (side .result) 0 (omega arith), c .before .before .before .byte-at2 .ensures .0, c .before .before .byte-at3 .ensures .0, c .before .number4 .ensures) refl

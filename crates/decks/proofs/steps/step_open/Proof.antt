@@ -1,10 +1,10 @@
--- `decks::steps::step_open`: by what the strict opening answers.
+-- `decks::steps::step_open`: by what the strict opening at degree 16 in y answers.
 use native.Mathlib.Omega.{arith}
 use mathlib.Core.Path.{sym}
 use lib.Seq.{length-take-le}
 use Rattle.scope.specs.Point.{needed}
-use Rattle.decks.specs.Deck.{tableA, tableB, withJob}
-use Rattle.decks.proofs.Answers.{Answered, accepted-stands, opening-refused, opening-accepted}
+use Rattle.decks.specs.Deck.{withJob}
+use Rattle.decks.proofs.Answers.{Answered, answered-front, accepted-stands, opening-refused, opening-accepted}
 use borrow.Author.Needs.{needs}
 use Rattle.decks.proofs.steps.step_open.Statement.{statement}
 use Rattle.decks.proofs.steps.step_open.Tie as tie
@@ -33,7 +33,7 @@ array-share-prefix-a c = search needs
 slice-aggregate-strict : tie.Need-slice-aggregate-strict
 slice-aggregate-strict c =
     let start = c .before .before .before .before .before .before in
-    sym (length-take-le _ (start .args .d .a) (omega (arith, start .pre .0 .length-a, start .pre .0 .low-m)))
+    sym (length-take-le _ (start .args .d .a) (omega (arith, start .pre .0 .side-a .full, start .pre .0 .side-a .low-x)))
 
 array-share-prefix-b : tie.Need-array-share-prefix-b
 array-share-prefix-b c = search needs
@@ -41,14 +41,15 @@ array-share-prefix-b c = search needs
 slice-aggregate-strict-2 : tie.Need-slice-aggregate-strict-2
 slice-aggregate-strict-2 c =
     let start = c .before .before .before .before .before .before .before in
-    sym (length-take-le _ (start .args .d .b) (omega (arith, start .pre .0 .length-b, start .pre .0 .low-n)))
+    sym (length-take-le _ (start .args .d .b) (omega (arith, start .pre .0 .side-b .full, start .pre .0 .side-b .low-x)))
 
 strict-requires : tie.Need-strict-requires
 strict-requires c κs = search needs
 
 answered : (c : tie.After-strict) → Answered (c .before .before .before .before .before .before .before .before .args .d) (c .strict .result)
-unfolding tableA tableB
-answered c = record { number = c .strict .ensures .0; job = c .strict .ensures .1 }
+answered c =
+    let start = c .before .before .before .before .before .before .before .before in
+    answered-front (start .args .d) (c .strict .result) (start .pre .0) (c .strict .ensures .0) (c .strict .ensures .1)
 
 refused-line-requires : tie.Need-refused-line-requires
 refused-line-requires c κs = search needs

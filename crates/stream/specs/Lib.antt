@@ -1,0 +1,2 @@
+-- What arrives of a deck.
+pub mod Arrival
