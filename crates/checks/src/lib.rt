@@ -1,5 +1,7 @@
 // Which number a call answers for its input. A test says whether one refusal applies; a number is that of the first
 // refusal that applies in the scope's order, or 0.
+#![tactic(auto)]
+
 ghost use Rattle.std.specs.Prelude.{◌≡◌, ◌≤◌, length};
 ghost use Rattle.scope.specs.Pair.{size};
 ghost use Rattle.scope.specs.Number;

@@ -1,4 +1,6 @@
 // The deck: records from standard input, a line for each answer to standard output.
+#![tactic(auto)]
+
 ghost use Rattle.std.specs.Prelude.{◌+◌, ◌^◌, ◌≤◌, ◌<◌, length, true, ◌≡◌};
 ghost use Rattle.decks.specs.State.{Fit};
 ghost use Rattle.stream.specs.Arrival.{Arrives};

@@ -1,4 +1,6 @@
 // The deck reader: the state it goes through, one record at a time.
+#![tactic(auto)]
+
 use job::Job;
 
 pub mod records;

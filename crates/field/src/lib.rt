@@ -1,6 +1,8 @@
 // Arithmetic modulo p on numbers of 32 bits. Every number returned is the remainder itself, below p; what its residue
 // is stands in residue's specs/Computed.antt.
 // Nothing here asks that p stay below 2^31: each function takes every p that its contract admits.
+#![tactic(auto)]
+
 ghost use Rattle.std.specs.Prelude.{◌≡◌, ◌↔◌, true, ◌+◌, ◌*◌, ◌-◌, ◌%◌, ◌<◌, ◌≤◌};
 ghost use Rattle.ring.specs.Ring.{pow};
 ghost use Rattle.residue.specs.Prime.{Prime};

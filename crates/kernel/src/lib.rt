@@ -1,6 +1,8 @@
 // The kernel's public calls. None has a `requires`: every input gets its number, and a refused call changes nothing.
 // What each answers and leaves behind is a definition of the crates scope and job; the records named in the contracts
 // gather it (specs/Results.antt).
+#![tactic(auto)]
+
 ghost use Rattle.kernel.specs.Results.{RowResult, PlainResult, DivisionResult, DivisorResult, OpenResult, OfferResult, LotResult, ReadResult, ShotResult};
 
 use job::{Job, JobAnswer, ReadAnswer};

@@ -1,4 +1,6 @@
 // The lines of a deck, each laid at the start of a lent buffer: the answer is how long the line is.
+#![tactic(auto)]
+
 pub mod text;
 
 ghost use Rattle.std.specs.Prelude.{◌+◌, ◌*◌, ◌≤◌, [], ◌∷◌, length, take};

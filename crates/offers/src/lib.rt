@@ -1,5 +1,7 @@
 // Offers to a sound job: the value kept at a point, the number of a point, a single offer and a lot.
 // What a sound record holds is taken for granted here (Standing): a call checks its record once, before it comes here.
+#![tactic(auto)]
+
 ghost use Rattle.std.specs.Prelude.{◌≡◌, ◌++◌, ◌<◌, ◌≤◌, length, take, drop};
 ghost use Rattle.residue.specs.Prime.{Prime};
 ghost use Rattle.scope.specs.Pair.{tables};

@@ -1,4 +1,6 @@
 // Opening: from two tables to a job, or to the number of the first refusal.
+#![tactic(auto)]
+
 ghost use Rattle.std.specs.Prelude.{◌≡◌, ◌+◌, ◌≤◌, length};
 ghost use Rattle.scope.specs.Pair.{size};
 ghost use Rattle.job.specs.Job as layout;

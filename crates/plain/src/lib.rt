@@ -1,5 +1,7 @@
 // The determinant of Sylvester's matrix by expansion along rows, for m + n <= 6. The matrix stands in a table of 36
 // numbers, six to a row; a smaller matrix is the rows from some row on, in some columns.
+#![tactic(auto)]
+
 ghost use Rattle.std.specs.Prelude.{◌≡◌, ℕ, ◌+◌, ◌-◌, ◌<◌, ◌≤◌, length};
 ghost use Rattle.ring.specs.Det.{det};
 ghost use Rattle.residue.specs.Residue.{residues, res, val};

@@ -1,5 +1,7 @@
 // Arithmetic on lent slices: values of polynomials, rows of a table at a point, usable points, and Newton's rule.
 // A table here has 289 entries, 17 places to a power of x: the coefficient of x^i y^j stands at 17 i + j.
+#![tactic(auto)]
+
 ghost use Rattle.std.specs.Prelude.{◌≡◌, cond, not, ◌++◌, ℕ, suc, ◌+◌, ◌*◌, ◌-◌, ◌%◌, ◌<◌, ◌≤◌, leb, eqb, length, get_or, drop};
 ghost use Rattle.residue.specs.Prime.{Prime};
 ghost use Rattle.residue.specs.Residue.{residues, res, val};

@@ -1,6 +1,8 @@
 // The calls as C sees them: numbers, slices as a pointer and a length, and records of whole numbers by value.
 // Each function is one public call of the crate kernel; which row divides, where a slice cannot be handed back, answers
 // the side and the length of the stretch that the call would hand back.
+#![tactic(auto)]
+
 ghost use Rattle.std.specs.Prelude.{◌≡◌, length};
 ghost use Rattle.rows.specs.Which.{lower, first?, pick};
 ghost use Rattle.kernel.specs.Results.{RowResult, PlainResult, DivisionResult, OpenResult, OfferResult, LotResult, ReadResult, ShotResult};

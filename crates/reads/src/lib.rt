@@ -1,6 +1,8 @@
 // Reads: the determinant out of a sound job that has all its points; and the one-shot, which opens a job, fills it and
 // reads it.
 // What a sound record holds is taken for granted here (Standing): a call checks its record once, before it comes here.
+#![tactic(auto)]
+
 ghost use Rattle.std.specs.Prelude.{cond, ◌≡◌};
 ghost use Rattle.scope.specs.Point.{smallest};
 ghost use Rattle.job.specs.Job.{pair_of};

@@ -1,1 +1,3 @@
 // Residues modulo a prime: definitions and laws only, in specs/.
+#![tactic(auto)]
+

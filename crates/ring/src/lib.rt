@@ -1,1 +1,3 @@
 // Commutative rings, finite sums and determinants: definitions and laws only, in specs/.
+#![tactic(auto)]
+

@@ -1,4 +1,6 @@
 // Runs the row calls on the scope's figures and at the edges of what they accept, and prints what they answer.
+#![tactic(auto)]
+
 use libc::STDOUT_FILENO;
 
 fn say(word: &[u8]) {

@@ -1,5 +1,7 @@
 // Rows modulo p: the multiply-and-subtract, division in the work row, which row divides, the row resultant, and the
 // determinant at declared degrees.
+#![tactic(auto)]
+
 ghost use Rattle.std.specs.Prelude.{◌≡◌, ◌++◌, map, ℕ, ◌*◌, ◌%◌, ◌<◌, ◌≤◌, length, get_or, take, drop};
 ghost use Rattle.ring.specs.Ring.{Ring, pow, sign};
 ghost use Rattle.residue.specs.Prime.{Prime};

@@ -1,1 +1,3 @@
 // What the kernel computes and which number each call answers: definitions, laws and figures, in specs/.
+#![tactic(auto)]
+

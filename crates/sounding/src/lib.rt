@@ -1,5 +1,7 @@
 // The test that every offer, lot and read makes once per call: whether a record is sound.
 // Slices that are fields of one record share a lifetime, so that they can be lent to one call.
+#![tactic(auto)]
+
 ghost use Rattle.std.specs.Prelude.{◌≡◌, true, ◌<◌, ◌≤◌, length, drop};
 ghost use Rattle.scope.specs.Pair.{tables};
 ghost use Rattle.scope.specs.Point.{enough};

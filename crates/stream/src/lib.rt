@@ -1,5 +1,7 @@
 // A deck's records from standard input, and lines to standard output. What the C functions read and write no contract can
 // say; what can be said is what a record's arrival holds, and why it ended.
+#![tactic(auto)]
+
 ghost use Rattle.std.specs.Prelude.{◌≤◌, length};
 ghost use Rattle.stream.specs.Arrival.{Reads, Fills, Arrives};
 

@@ -1,1 +1,3 @@
 // Sylvester's matrix and the laws of its determinant: definitions and laws only, in specs/.
+#![tactic(auto)]
+
