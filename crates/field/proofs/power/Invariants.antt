@@ -1,0 +1,14 @@
+-- `field::power`: each turn takes the last binary digit of the exponent that is left.
+use native.Mathlib.Omega.{arith}
+use mathlib.Core.Logic.{⊎_elim}
+use mathlib.Core.Path.{◌∙◌}
+use Rattle.ring.specs.Ring.{pow}
+use Rattle.residue.specs.Residue.{residues, res}
+use Rattle.field.proofs.Powers.{Raised, raised_first, raised_even, raised_odd, raised-last}
+use Rattle.field.proofs.power.Given as goal
+
+abbrev pub invariant-loop-left : goal.invariant-loop-left
+invariant-loop-left l = Raised l.p (pow (residues l.p) (res l.p l.a) l.n) l.r l.base l.left
+
+abbrev pub decreases-loop-left : goal.decreases-loop-left
+decreases-loop-left l = l.left
