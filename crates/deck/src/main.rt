@@ -13,7 +13,7 @@ use lines::end_line;
 use stream::{Arrival, complain, next_record, print};
 
 // Where a run stands: the state, the place of the next record, and whether it has stopped.
-#[derive(Drop)]
+#[derive(Clone, Copy)]
 struct Run {
     state: Deck,
     offset: u64,
@@ -21,14 +21,14 @@ struct Run {
 }
 
 // The run after an arrival, and how long the line at the start of the buffer is.
-#[derive(Drop)]
+#[derive(Clone, Copy)]
 struct Going {
     run: Run,
     length: usize,
 }
 
 // A turn: what arrived, where the run stands after it, and whether the line was written.
-#[derive(Drop)]
+#[derive(Clone, Copy)]
 struct Progress {
     run: Run,
     arrival: Arrival,
@@ -37,7 +37,7 @@ struct Progress {
 }
 
 // Where a run ended: with a failed read, a failed write, all its turns spent, or as the deck says.
-#[derive(Drop)]
+#[derive(Clone, Copy)]
 struct Ending {
     run: Run,
     unread: bool,

@@ -8,7 +8,7 @@ pub mod steps;
 
 // stage: 0 before the modulus, 1 before the degrees, 2 before the opening, 3 with an open job.
 // The coefficient of x^i y^j of A stands at 17 i + j of `a`, and so for B.
-#[derive(Drop)]
+#[derive(Clone, Copy)]
 pub struct Deck {
     pub stage: u32,
     pub p: u32,
@@ -22,7 +22,7 @@ pub struct Deck {
 }
 
 // What a step leaves: the state, how long the line at the start of the buffer is, and whether the run stops.
-#[derive(Drop)]
+#[derive(Clone, Copy)]
 pub struct Step {
     pub state: Deck,
     pub length: usize,

@@ -5,7 +5,7 @@
 // A record of whole numbers alone, so that every pattern of its bytes is a record: the calls check it.
 // The coefficient of x^i y^j of A stands at 17 i + j of `a`, and so for B.
 #[repr(C)]
-#[derive(Drop)]
+#[derive(Clone, Copy)]
 pub struct Job {
     pub p: u32,
     pub m: u32,
@@ -21,7 +21,7 @@ pub struct Job {
 
 // What an opening, an offer or a lot answers: the number, and the job afterwards.
 #[repr(C)]
-#[derive(Drop)]
+#[derive(Clone, Copy)]
 pub struct JobAnswer {
     pub number: u32,
     pub job: Job,
@@ -29,7 +29,7 @@ pub struct JobAnswer {
 
 // What a read or a one-shot answers. wanted: how many points are still wanted, with 14. zero: 1 where the polynomial is zero.
 #[repr(C)]
-#[derive(Drop)]
+#[derive(Clone, Copy)]
 pub struct ReadAnswer {
     pub number: u32,
     pub wanted: u32,

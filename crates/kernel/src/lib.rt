@@ -9,7 +9,7 @@ use job::{Job, JobAnswer, ReadAnswer};
 
 // value: the resultant. steps: the coefficient steps of the remainder sequence.
 #[repr(C)]
-#[derive(Drop)]
+#[derive(Clone, Copy)]
 pub struct RowAnswer {
     pub number: u32,
     pub value: u32,
@@ -17,7 +17,7 @@ pub struct RowAnswer {
 }
 
 #[repr(C)]
-#[derive(Drop)]
+#[derive(Clone, Copy)]
 pub struct PlainAnswer {
     pub number: u32,
     pub value: u32,
@@ -25,7 +25,7 @@ pub struct PlainAnswer {
 
 // count: the coefficient steps of the division.
 #[repr(C)]
-#[derive(Drop)]
+#[derive(Clone, Copy)]
 pub struct DivisionAnswer {
     pub number: u32,
     pub count: u32,

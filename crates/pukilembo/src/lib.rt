@@ -12,7 +12,7 @@ use kernel::{DivisionAnswer, PlainAnswer, RowAnswer};
 
 // Which row divides, where a slice cannot be handed back: its side, 0 or 1, and its length.
 #[repr(C)]
-#[derive(Drop)]
+#[derive(Clone, Copy)]
 pub struct Stretch {
     pub side: u32,
     pub length: usize,

@@ -143,7 +143,7 @@ fn turn(p: u32, lead: u32, m: usize, n: usize, x: u32) -> u32
 }
 
 // What a division leaves: its steps, and how long the remainder is when it is trimmed
-#[derive(Drop)]
+#[derive(Clone, Copy)]
 struct Cut {
     steps: u32,
     len: usize,
@@ -172,7 +172,7 @@ fn divided(p: u32, before: &mut [u32], r: &mut [u32]) -> Cut
 
 // What a run of the sequence finds: the value of the formula, the coefficient steps, and where its last row stands
 // when it is made monic: in the first work row for side 0, in the second for side 1, from the start, len entries
-#[derive(Drop)]
+#[derive(Clone, Copy)]
 pub struct Found {
     pub value: u32,
     pub steps: u32,

@@ -9,7 +9,7 @@ use decks::records::body_length;
 use libc::{STDERR_FILENO, STDIN_FILENO, STDOUT_FILENO};
 
 // What reading brought: how many bytes, and whether the input ended or a read failed.
-#[derive(Drop)]
+#[derive(Clone, Copy)]
 pub struct Piece {
     pub count: usize,
     pub ended: bool,
@@ -17,7 +17,7 @@ pub struct Piece {
 }
 
 // What arrived of a record: its kind, where one was found, and the first `count` bytes of its body.
-#[derive(Drop)]
+#[derive(Clone, Copy)]
 pub struct Arrival {
     pub found: bool,
     pub kind: u8,
