@@ -1,5 +1,4 @@
 -- `checks::plain_number`: a row that is not refused is one entry longer than its declared degree.
-use borrow.Author.Rules.{rules}
 use mathlib.Core.Path.{refl, sym, ◌∙◌}
 use Rattle.scope.specs.Number.{plain_number}
 use Rattle.checks.specs.Facts.{row-facts}
