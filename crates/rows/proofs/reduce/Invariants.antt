@@ -1,0 +1,14 @@
+-- `rows::reduce`: each turn divides one place more, from the top of the quotient down.
+use Prim.Native.Nat.{◌-◌}
+use native.Mathlib.Omega.{arith}
+use native.Mathlib.Nat.{mod-lt}
+use borrow.Author.Rules.{rules}
+use Rattle.rows.proofs.Bounds.{declared-minus, below-drop}
+use Rattle.rows.proofs.Work.{Work, work_first, work_more, work-last, part_end, part_length}
+use Rattle.rows.proofs.reduce.Given as goal
+
+abbrev pub invariant-loop-k : goal.invariant-loop-k
+invariant-loop-k l = Work l.p l.d l.initial.row l.b l.row l.k
+
+abbrev pub decreases-loop-k : goal.decreases-loop-k
+decreases-loop-k l = l.k
