@@ -4,7 +4,7 @@
 --   usables-front                   fewer numbers give a front of the list
 --   usables_more                    more numbers give no fewer usable points
 --   smallest_is                     as many usable points as are needed, all below k, are the smallest ones
-use Rattle.std.specs.Prelude.{ℕ, zero, suc, ◌<◌, ◌≤◌, Bool, true, false, List, [], ◌∷◌, ◌++◌, ◌≡◌, refl, length, take}
+use Rattle.std.specs.Prelude.{ℕ, zero, suc, ◌≤◌, Bool, true, false, List, [], ◌∷◌, ◌++◌, ◌≡◌, refl, length, take}
 use Rattle.std.proofs.Math.Decide.{ℕ_discrete}
 use Rattle.std.proofs.Common.{arith, append_assoc, append-nil, sym, ◌∙◌, length-append}
 use Rattle.std.proofs.Math.Bool.{cond}
