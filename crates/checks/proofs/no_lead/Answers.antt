@@ -1,10 +1,9 @@
 -- `checks::no_lead`: the entries of the leading row that are passed are zero.
-use Prim.Native.Nat.{◌+◌, ◌-◌}
+use Prim.Native.Nat.{◌+◌}
 use native.Mathlib.Nat.{mul-le-mul}
 use native.Mathlib.Omega.{arith}
 use mathlib.Core.Path.{sym}
-use lib.ListN.{length}
-use Rattle.checks.proofs.Tests.{Zeros, zeros_none, zeros_more, zeros_found, zeros_all}
+use Rattle.checks.proofs.Tests.{zeros_none, zeros_more, zeros_found, zeros_all}
 use Rattle.checks.proofs.no_lead.Goals as goal
 
 pub overflow_mul-i : goal.overflow_mul-i

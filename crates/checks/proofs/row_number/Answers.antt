@@ -13,7 +13,6 @@ returns-then-lengths-ne0 c =
 
 pub returns : goal.returns
 returns c =
-    let d = c in
-    onward d.before.modulus-number.ensures d.if1.false
+    onward c.modulus_number-modulus.ensures c.if-modulus-ne0.false
     (onward c.lengths_number-lengths.ensures c.if-lengths-ne0.false c.entries_number.ensures) ∙
     sym (row_parts _ _ _)

@@ -1,38 +1,51 @@
 -- `checks::shape_number`: the parts of the chain, one after the other.
-use mathlib.Core.Logic.{⊎_elim, inl, inr}
+use mathlib.Core.Logic.{inl, inr}
 use mathlib.Core.Path.{refl, sym, ◌∙◌}
 use Rattle.scope.specs.Number.{too_high}
 use Rattle.scope.specs.TestLaws.{too_high_false}
 use Rattle.checks.specs.Parts.{shape_parts}
 use Rattle.checks.proofs.Chain.{said, neither, one_of, here, past, halted, onward}
 use Rattle.checks.proofs.shape_number.Goals as goal
-use Rattle.checks.proofs.shape_number.Goals.{else-too_high, then-too_high}
+use Rattle.checks.proofs.shape_number.Goals.{then-too_high-via-else-too_high+else-too_high-2+else-too_high-3+then-too_high-4, then-too_high-via-else-too_high+else-too_high-2+then-too_high-3, then-too_high-via-else-too_high+then-too_high-2, then-too_high-via-then-too_high}
 
 pub returns-then-modulus-ne0 : goal.returns-then-modulus-ne0
 returns-then-modulus-ne0 c = halted _ c.modulus_number-modulus.ensures c.if-modulus-ne0.true ∙ sym (shape_parts _ _ _ _ _ _ _)
 
 pub returns-then-too_high : goal.returns-then-too_high
 returns-then-too_high c =
-    let start = c in
     onward c.modulus_number-modulus.ensures c.if-modulus-ne0.false
     (here _
-    (one_of (too_high start.args.m) (too_high start.args.e) (too_high start.args.n) (too_high start.args.f)
-    (ELIM? (λ w. inl (said c.too_high.ensures w.taken))
-    (ELIM? (λ w. inr (inl (said w.1.ensures w.2.taken)))
-    (⊎_elim (λ w. inr (inr (inl (said w.3.ensures w.4.taken)))) (λ w. inr (inr (inr (said w.5.ensures w.6.taken))))))
-    c.then-too_high.branch))) ∙
+    (one_of (too_high c.args.m) (too_high c.args.e) (too_high c.args.n) (too_high c.args.f)
+    (elim c.then-too_high.branch [
+      | then-too_high-via-then-too_high w ↦ inl (said c.too_high.ensures w.if-too_high.true)
+      | then-too_high-via-else-too_high+then-too_high-2 w ↦ inr (inl (said w.too_high-else-too_high.ensures w.if-too_high-2.true))
+      | then-too_high-via-else-too_high+else-too_high-2+then-too_high-3 w ↦ inr (inr (inl (said w.too_high-else-too_high-2.ensures w.if-too_high-3.true)))
+      | then-too_high-via-else-too_high+else-too_high-2+else-too_high-3+then-too_high-4 w ↦ inr (inr (inr (said w.too_high-else-too_high-3.ensures w.if-too_high-4.true)))
+    ]))) ∙
     sym (shape_parts _ _ _ _ _ _ _)
+
+pub tables_number-requires-clause-m_bound : goal.tables_number-requires-clause-m_bound
+tables_number-requires-clause-m_bound c =
+    (too_high_false _).0 (said c.too_high.ensures c.if-too_high.false)
+
+pub tables_number-requires-clause-e_bound : goal.tables_number-requires-clause-e_bound
+tables_number-requires-clause-e_bound c =
+    (too_high_false _).0 (said c.too_high-else-too_high.ensures c.if-too_high-2.false)
+
+pub tables_number-requires-clause-n_bound : goal.tables_number-requires-clause-n_bound
+tables_number-requires-clause-n_bound c =
+    (too_high_false _).0 (said c.too_high-else-too_high-2.ensures c.if-too_high-3.false)
+
+pub tables_number-requires-clause-f_bound : goal.tables_number-requires-clause-f_bound
+tables_number-requires-clause-f_bound c =
+    (too_high_false _).0 (said c.too_high-else-too_high-3.ensures c.if-too_high-4.false)
 
 pub returns : goal.returns
 returns c =
-    let c₃ = c in
-    let c₂ = c₃.before.before in
-    let c₁ = c₂.before.before in
-    let d = c₁.before.before in
-    onward d.before.modulus-number.ensures d.if1.false
+    onward c.modulus_number-modulus.ensures c.if-modulus-ne0.false
     (past 4
     (neither refl
-    (neither refl (neither c₁.before.too-high.ensures c₁.if2.false c₂.before.too-high2.ensures c₂.if3.false) c₃.before.too-high3.ensures c₃.if4.false)
+    (neither refl (neither c.too_high.ensures c.if-too_high.false c.too_high-else-too_high.ensures c.if-too_high-2.false) c.too_high-else-too_high-2.ensures c.if-too_high-3.false)
     c.too_high-else-too_high-3.ensures c.if-too_high-4.false)
     c.tables_number.ensures) ∙
     sym (shape_parts _ _ _ _ _ _ _)

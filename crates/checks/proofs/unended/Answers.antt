@@ -1,5 +1,4 @@
 -- `checks::unended`: the last entry is the one of the declared degree.
-use borrow.Author.Rules.{rules}
 use native.Mathlib.Omega.{arith}
 use mathlib.Core.Path.{sym}
 use Rattle.checks.proofs.Tests.{last_none, last-place}

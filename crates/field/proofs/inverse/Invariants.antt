@@ -1,9 +1,5 @@
 -- `field::inverse`: each turn goes on to the next pair of remainders; a prime p leaves no remainder 0 before 1.
-use Prim.Native.Nat.{◌+◌, ◌*◌, ◌-◌, ◌/◌}
-use native.Mathlib.Nat.{div-mul-le_self}
-use native.Mathlib.Omega.{arith}
-use mathlib.Core.Bool.{not}
-use Rattle.field.proofs.Euclid.{Chain, chain_first, chain_bounds, chain_next, chain-plus, chain-minus}
+use Rattle.field.proofs.Euclid.{Chain}
 use Rattle.field.proofs.inverse.Given as goal
 
 abbrev pub invariant-loop-r1 : goal.invariant-loop-r1

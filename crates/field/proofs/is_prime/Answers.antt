@@ -1,11 +1,8 @@
 -- `field::is_prime`: a divisor found is a proof against; with every d tried up to the square root, there is none.
-use Prim.Native.Nat.{◌-◌, ◌^◌, ◌<◌}
 use native.Mathlib.Omega.{arith}
-use mathlib.Core.Logic.{⊎_elim}
 use mathlib.Core.Path.{refl}
-use borrow.Author.Tests.{eqb-true, eqb-false}
 use Rattle.field.proofs.Numbers.{product_most}
-use Rattle.field.proofs.Trials.{Tried, tried_first, tried-next, tried_all, tried-room, divided}
+use Rattle.field.proofs.Trials.{tried_first, tried-next, tried_all, tried-room, divided}
 use Rattle.field.proofs.is_prime.Goals as goal
 use Rattle.field.proofs.is_prime.Goals.{else-p-ge4-via-then-p-ge4+else-p-eq0, else-p-ge4-via-else-p-ge4}
 

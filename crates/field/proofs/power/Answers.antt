@@ -1,10 +1,7 @@
 -- `field::power`: each turn takes the last binary digit of the exponent that is left.
 use native.Mathlib.Omega.{arith}
-use mathlib.Core.Logic.{⊎_elim}
 use mathlib.Core.Path.{◌∙◌}
-use Rattle.ring.specs.Ring.{pow}
-use Rattle.residue.specs.Residue.{residues, res}
-use Rattle.field.proofs.Powers.{Raised, raised_first, raised_even, raised_odd, raised-last}
+use Rattle.field.proofs.Powers.{raised_first, raised_even, raised_odd, raised-last}
 use Rattle.field.proofs.power.Goals as goal
 use Rattle.field.proofs.power.Goals.{then-left-eq1, else-left-eq1}
 
@@ -14,8 +11,8 @@ loop-left-init c = raised_first c.args.p (omega arith) c.args.a c.args.n
 pub loop-left-preserved : goal.loop-left-preserved
 loop-left-preserved c =
     elim c.if-left-eq1.branch [
-      then-left-eq1 w ↦ raised_odd c.args.p c.loop-left.invariant c.mul-base.ensures (w.r-is ∙ w.mul-r.ensures) w.if-left-eq1.true
-    | else-left-eq1 w ↦ rw w.r-is (raised_even c.args.p c.loop-left.invariant c.mul-base.ensures (omega arith))
+      | then-left-eq1 w ↦ raised_odd c.args.p c.loop-left.invariant c.mul-base.ensures (w.r-is ∙ w.mul-r.ensures) w.if-left-eq1.true
+      | else-left-eq1 w ↦ rw w.r-is (raised_even c.args.p c.loop-left.invariant c.mul-base.ensures (omega arith))
     ]
 
 pub returns : goal.returns

@@ -1,10 +1,7 @@
 -- `field::power`: each turn takes the last binary digit of the exponent that is left.
-use native.Mathlib.Omega.{arith}
-use mathlib.Core.Logic.{⊎_elim}
-use mathlib.Core.Path.{◌∙◌}
 use Rattle.ring.specs.Ring.{pow}
 use Rattle.residue.specs.Residue.{residues, res}
-use Rattle.field.proofs.Powers.{Raised, raised_first, raised_even, raised_odd, raised-last}
+use Rattle.field.proofs.Powers.{Raised}
 use Rattle.field.proofs.power.Given as goal
 
 abbrev pub invariant-loop-left : goal.invariant-loop-left
