@@ -10,6 +10,8 @@ use decks::Deck;
 use decks::records::{body_length, fresh};
 use decks::steps::step;
 use lines::end_line;
+use std::io;
+use std::io::{Read, Write};
 use stream::{Arrival, complain, next_record, print};
 
 // Where a run stands: the state, the place of the next record, and whether it has stopped.
@@ -86,16 +88,16 @@ fn go(run: Run, arrival: Arrival, line: &mut [u8]) -> Going
 }
 
 // The next record, or the end of input: read, taken, and its line printed.
-fn turn(run: Run, line: &mut [u8]) -> Progress
+fn turn<R: Read, W: Write>(input: &mut R, output: &mut W, run: Run, line: &mut [u8]) -> Progress
     requires fit { Fit run.state }
     requires offset_bound { run.offset + 8 < 2 ^ 64 }
     requires in_bounds { 5707 ≤ length line.old }
     ensures { Turned run line.old result line.new }
 {
-    let arrival = next_record();
+    let arrival = next_record(input);
     let going = go(run, arrival, line);
     let length = going.length;
-    let written = print(&line[..length]);
+    let written = print(output, &line[..length]);
     let next = going.run;
     Progress {
         run: next,
@@ -106,7 +108,7 @@ fn turn(run: Run, line: &mut [u8]) -> Progress
 }
 
 // A whole run. A record takes 8 bytes at most, so that with these turns no offset wraps.
-fn play() -> Ending
+fn play<R: Read, W: Write>(input: &mut R, output: &mut W) -> Ending
     ensures { Ran result }
 {
     let mut line = [0u8; 8192];
@@ -118,7 +120,7 @@ fn play() -> Ending
     };
     let mut turns = u64::MAX / 8;
     while turns > 0 {
-        let done = turn(run, &mut line);
+        let done = turn(input, output, run, &mut line);
         run = done.run;
         if run.halt | !done.written {
             let last = done.arrival;
@@ -140,15 +142,16 @@ fn play() -> Ending
 }
 
 // What stopped a run short goes to standard error. No run that a machine can finish spends its turns.
-fn main() {
-    let ending = play();
+fn main(rt: HostRuntime) {
+    let ending = play(&mut rt.reader(), &mut io::writer(&rt));
+    let mut errors = rt.stderr();
     if ending.unread {
-        complain(b"deck: reading failed\n");
+        complain(&mut errors, b"deck: reading failed\n");
     }
     if ending.unwritten {
-        complain(b"deck: writing failed\n");
+        complain(&mut errors, b"deck: writing failed\n");
     }
     if ending.spent {
-        complain(b"deck: too many records\n");
+        complain(&mut errors, b"deck: too many records\n");
     }
 }

@@ -1,12 +1,12 @@
-// A deck's records from standard input, and lines to standard output. What the C functions read and write no contract can
-// say; what can be said is what a record's arrival holds, and why it ended.
+// A deck's records from a reader of bytes, and lines to a writer. What the system's own streams read and write no contract
+// can say; what can be said is what a record's arrival holds, and why it ended.
 #![tactic(auto)]
 
 ghost use Rattle.std.specs.Prelude.{◌≤◌, length};
 ghost use Rattle.stream.specs.Arrival.{Reads, Fills, Arrives};
 
 use decks::records::body_length;
-use libc::{STDERR_FILENO, STDIN_FILENO, STDOUT_FILENO};
+use std::io::{Read, Write};
 
 // What reading brought: how many bytes, and whether the input ended or a read failed.
 #[derive(Clone, Copy)]
@@ -27,44 +27,42 @@ pub struct Arrival {
     pub failed: bool,
 }
 
-// A message on standard error.
-pub fn complain(message: &[u8]) {
-    io::write_all(STDERR_FILENO, message);
+// A message, where it can be written.
+pub fn complain<W: Write>(errors: &mut W, message: &[u8]) {
+    print(errors, message);
 }
 
-// A line on standard output: whether it was written.
-pub fn print(line: &[u8]) -> bool {
-    io::write_all(STDOUT_FILENO, line)
+// A line: whether it was written.
+pub fn print<W: Write>(output: &mut W, line: &[u8]) -> bool {
+    output.write_all(line).is_ok()
 }
 
-// One read. The C function answers 0 at the end of input, and less than 0 where it fails.
-fn read_some(part: &mut [u8]) -> Piece
+// One read. It brings nothing at the end of input, and nothing where it fails.
+fn read_some<R: Read>(input: &mut R, part: &mut [u8]) -> Piece
     ensures { Reads (length part.old) result }
 {
-    let got = libc::read(STDIN_FILENO, part);
-    if got < 0 {
-        return Piece {
+    match input.read(part) {
+        Ok(count) => Piece {
+            count,
+            ended: count == 0,
+            failed: false,
+        },
+        Err(_) => Piece {
             count: 0,
             ended: false,
             failed: true,
-        };
-    }
-    let count = io::count(got, part);
-    Piece {
-        count,
-        ended: count == 0,
-        failed: false,
+        },
     }
 }
 
 // Reads until `need` bytes came, the input ends or a read fails.
-fn fill(body: &mut [u8], need: usize) -> Piece
+fn fill<R: Read>(input: &mut R, body: &mut [u8], need: usize) -> Piece
     requires { need ≤ length body.old }
     ensures { Fills need result }
 {
     let mut count = 0;
     while count < need {
-        let more = read_some(&mut body[count..need]);
+        let more = read_some(input, &mut body[count..need]);
         if more.count == 0 {
             return Piece {
                 count,
@@ -82,12 +80,12 @@ fn fill(body: &mut [u8], need: usize) -> Piece
 }
 
 // The next record: its kind, and as much of its body as arrives.
-pub fn next_record() -> Arrival
+pub fn next_record<R: Read>(input: &mut R) -> Arrival
     ensures { Arrives result }
 {
     let mut first = [0u8; 1];
     let mut body = [0u8; 7];
-    let head = fill(&mut first, 1);
+    let head = fill(input, &mut first, 1);
     let kind = first[0];
     if head.count == 0 {
         return Arrival {
@@ -99,7 +97,7 @@ pub fn next_record() -> Arrival
             failed: head.failed,
         };
     }
-    let rest = fill(&mut body, body_length(kind));
+    let rest = fill(input, &mut body, body_length(kind));
     Arrival {
         found: true,
         kind,
