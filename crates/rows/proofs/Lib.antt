@@ -6,6 +6,7 @@ pub mod Fall
 pub mod Monic
 pub mod Order
 pub mod Places
+pub mod Rest
 pub mod Scaled
 pub mod Sides
 pub mod Trim
