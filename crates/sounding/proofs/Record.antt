@@ -12,7 +12,7 @@ use mathlib.Core.Bool.{Bool, true, false, not, ◌&&◌, and_assoc, and-eq-true_
 use mathlib.Core.List.{List, [], ◌∷◌, map}
 use mathlib.Core.Path.{◌≡◌, refl, sym, ap, ◌∙◌}
 use lib.Dec.{leb, eqb}
-use lib.ListN.{length, get_or, take, drop, length-map}
+use lib.ListN.{length, get_or, take, drop}
 use mir.Val.{Val}
 use denote.Laws.{Is}
 use denote.Struct.Declared.{row}
@@ -41,10 +41,6 @@ by_table : (x o o' z z' l l' d d' e : Bool)
     → (x && o && o' && z && z' && l && l' && d && d' && e) ≡ (x && ((o && z && l && d) && (o' && z' && l' && d') && e))
 by_table x o o' z z' l l' d d' e = simp (and_assoc, and_left_comm)
 
--- a value of a declared type holds an array through a map that changes nothing
-long : (n : ℕ) (t : List ℕ) → length (map (λ x. x) t) ≡ n → length t ≡ n
-long n t h = sym (length-map t (λ x. x)) ∙ h
-
 module _ (j : Job) where
   pub record Lengths : Type 0 where
     pub a : length j.a ≡ 289
@@ -57,10 +53,10 @@ module _ (j : Job) where
   record_lengths vs h =
       let arrays = h.1.1.1.1.1.1.1.1 in
       record {
-        a = long 289 j.a arrays.0.1.0.1;
-        b = long 289 j.b arrays.1.0.1.0.1;
-        points = long 513 j.points arrays.1.1.0.1.0.1;
-        values = long 513 j.values arrays.1.1.1.0.1.0.1;
+        a = arrays.0.1.0.1;
+        b = arrays.1.0.1.0.1;
+        points = arrays.1.1.0.1.0.1;
+        values = arrays.1.1.1.0.1.0.1;
       }
 
   pair_parts : sound_pair j ≡ (sound_numbers j.p j.m j.n && sound_tables j.p j.m j.da j.n j.db j.a j.b)
