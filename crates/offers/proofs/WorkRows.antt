@@ -3,6 +3,7 @@
 --   row-front          the first m + 1 places of a work row that a row was written into: the row
 --   row_long           there are m + 1 of them
 --   WorkRows           two work rows whose first places hold the rows of A and B at a point
+--   work_rows          rows that were written one after the other are such
 --   first_row, second_row   those places are what the determinant asks for
 --   rows-kept          the determinant of those places is the value kept
 use Prim.Native.Nat.{ℕ, ◌+◌, ◌≤◌}
@@ -41,6 +42,18 @@ pub record WorkRows (p m n : ℕ) (s t : List ℕ) (a : ℕ) (u w : List ℕ) : 
   pub low_n : n ≤ 16
   pub first : u ≡ row_at p m 16 (term 16 s) a
   pub second : w ≡ row_at p n 16 (term 16 t) a
+
+pub work_rows : (p m n : ℕ) (s t : List ℕ) (a : ℕ) → 2 ≤ p → Prime p → m ≤ 16 → n ≤ 16 → (old_u old_w : List ℕ) {u w : List ℕ}
+    → u ≡ row_at p m 16 (term 16 s) a ++ drop (m + 1) old_u → w ≡ row_at p n 16 (term 16 t) a ++ drop (n + 1) old_w
+    → WorkRows p m n s t a (take (m + 1) u) (take (n + 1) w)
+work_rows p m n s t a least prime low_m low_n old_u old_w eu ew = record {
+  least = least;
+  prime = prime;
+  low_m = low_m;
+  low_n = low_n;
+  first = row-front p m a (term 16 s) old_u eu;
+  second = row-front p n a (term 16 t) old_w ew;
+}
 
 module _ {p m n : ℕ} {s t : List ℕ} {a : ℕ} {u w : List ℕ} (h : WorkRows p m n s t a u w) where
   pub first_row : IsDeclared p u

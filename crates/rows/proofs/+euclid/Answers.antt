@@ -1,17 +1,15 @@
 -- `rows::euclid`: a constant ends the sequence, so does an empty rest; else the rest of it is worked out in the two rows.
-use Prim.Native.Nat.{ℕ, ◌+◌, ◌-◌, ◌≤◌}
+use Prim.Native.Nat.{◌≤◌}
 use native.Mathlib.Omega.{arith}
-use mathlib.Core.List.{List, ◌++◌}
-use mathlib.Core.Path.{◌≡◌, sym, ap, ◌∙◌}
+use mathlib.Core.Path.{sym, ap, ◌∙◌}
 use lib.ListN.{length, drop}
 use lib.Seq.{length-take-le}
 use Rattle.residue.specs.Residue.{val, val-𝟘, val-lt}
-use Rattle.euclid.specs.Sequence.{sequence}
 use Rattle.euclid.specs.FollowingLaws.{next}
 use Rattle.rows.proofs.Bounds.{declared-minus, count_constant}
 use Rattle.rows.proofs.Chain.{order-length, next_fits}
 use Rattle.rows.proofs.Rest.{goes_on, rest-answer, rest-steps}
-use Rattle.rows.proofs.Turns.{Answer, answer-last, by_last-zero, by_last-some, empty, monic_constant, next_constant, steps_most}
+use Rattle.rows.proofs.Turns.{answer-last, by_last-zero, by_last-some, empty, monic_constant, next_constant}
 use Rattle.rows.proofs.Value.{val_is}
 use Rattle.rows.proofs.+euclid.Goals as goal
 

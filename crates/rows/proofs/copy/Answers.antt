@@ -1,10 +1,7 @@
 -- `rows::copy`: each turn copies one entry.
-use Prim.Native.Nat.{◌-◌}
 use native.Mathlib.Omega.{arith}
 use mathlib.Core.Path.{refl}
-use borrow.Author.Rules.{rules}
-use lib.ListN.{length}
-use Rattle.rows.proofs.Copied.{Copied, copied_first, copied_more, copied-last}
+use Rattle.rows.proofs.Copied.{copied_first, copied_more, copied-last}
 use Rattle.rows.proofs.copy.Goals as goal
 
 pub loop-i-init : goal.loop-i-init

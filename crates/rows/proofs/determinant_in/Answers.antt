@@ -3,24 +3,24 @@ use Prim.Native.Nat.{◌-◌}
 use native.Mathlib.Nat.{mul-le-mul}
 use native.Mathlib.Omega.{arith}
 use mathlib.Core.Path.{ap, ◌∙◌}
-use borrow.Author.Rules.{rules}
 use lib.ListN.{length}
 use Rattle.residue.specs.Residue.{val, val-lt}
 use Rattle.rows.proofs.Fall.{ended_row, plain_value_lem, swap-value, both_zero, both_one}
 use Rattle.rows.proofs.determinant_in.Goals as goal
 
-pub resultant_in-requires : goal.resultant_in-requires
-resultant_in-requires c =
-    (c.requires.le_p, (c.requires.prime, (ended_row c.requires.declared c.if-u-m-ne0.true, ended_row c.requires.declared_2 c.if-w-n-ne0.true)))
+pub resultant_in-requires-clause-row : goal.resultant_in-requires-clause-row
+resultant_in-requires-clause-row c = ended_row c.requires.declared c.if-u-m-ne0.true
+
+pub resultant_in-requires-clause-row_2 : goal.resultant_in-requires-clause-row_2
+resultant_in-requires-clause-row_2 c = ended_row c.requires.declared_2 c.if-w-n-ne0.true
 
 pub returns-then-w-n-ne0 : goal.returns-then-w-n-ne0
 returns-then-w-n-ne0 c =
-    c.resultant_in.ensures.0
+    c.resultant_in.ensures.value_value
     ∙ ap (val c.args.p) (plain_value_lem c.args.p c.requires.le_p c.requires.prime c.args.u.now c.args.w.now (ended_row c.requires.declared c.if-u-m-ne0.true) (ended_row c.requires.declared_2 c.if-w-n-ne0.true))
 
-pub fallen-requires : goal.fallen-requires
-fallen-requires c =
-    (c.requires.le_p, (c.requires.prime, (ended_row c.requires.declared c.if-u-m-ne0.true, c.requires.declared_2)))
+pub fallen-requires-clause-row : goal.fallen-requires-clause-row
+fallen-requires-clause-row c = ended_row c.requires.declared c.if-u-m-ne0.true
 
 pub returns-then-u-m-ne0 : goal.returns-then-u-m-ne0
 returns-then-u-m-ne0 c = c.fallen.ensures
@@ -32,9 +32,8 @@ overflow_mul-turns c =
       mul-le-mul {n₁ = length c.args.u.now - 1} {m₁ = length c.args.w.now - 1} {n₂ = 16} {m₂ = 16} (omega (arith, c.requires.declared.short)) (omega (arith, c.requires.declared_2.short)),
     )
 
-pub fallen-requires-then-w-n-ne0-2 : goal.fallen-requires-then-w-n-ne0-2
-fallen-requires-then-w-n-ne0-2 c =
-    (c.requires.le_p, (c.requires.prime, (ended_row c.requires.declared_2 c.if-w-n-ne0-2.true, c.requires.declared)))
+pub fallen-requires-then-w-n-ne0-2-clause-row : goal.fallen-requires-then-w-n-ne0-2-clause-row
+fallen-requires-then-w-n-ne0-2-clause-row c = ended_row c.requires.declared_2 c.if-w-n-ne0-2.true
 
 pub signed-requires : goal.signed-requires
 signed-requires c =

@@ -1,9 +1,8 @@
-use Prim.Native.Nat.{ℕ, ◌-◌, ◌<◌}
+use Prim.Native.Nat.{ℕ, ◌-◌}
 use mathlib.Core.Path.{ap, ◌∙◌}
 use lib.ListN.{length, get_or}
 use Rattle.residue.specs.Inverse.{inverse}
 use native.Mathlib.Omega.{arith}
-use borrow.Author.Rules.{rules}
 use Rattle.rows.proofs.Bounds.{declared-minus, last_some, count_code, count_none, count_most}
 use Rattle.rows.proofs.Work.{work_none}
 use Rattle.rows.proofs.divide.Goals as goal

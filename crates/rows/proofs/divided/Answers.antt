@@ -5,7 +5,6 @@ use mathlib.Core.List.{List, ◌++◌}
 use mathlib.Core.Path.{sym, ap, ◌∙◌}
 use lib.ListN.{length}
 use lib.Seq.{length-take-le}
-use borrow.Author.Rules.{rules}
 use Rattle.euclid.specs.Row.{declared}
 use Rattle.euclid.specs.Division.{remainder, quotient, count}
 use Rattle.euclid.specs.MonicLaws.{monic-declared}
@@ -42,7 +41,7 @@ returns c =
       r_after = monic-is;
       before_after = work.row_after ∙ ap (λ (l : List ℕ). remainder p a l ++ quotient p a l) monic-is;
       steps_value =
-        work.value ∙ ap (λ (l : List ℕ). count (length a) (declared l)) monic-is ∙ ap (count (length a)) (monic-declared p b);
+          work.value ∙ ap (λ (l : List ℕ). count (length a) (declared l)) monic-is ∙ ap (count (length a)) (monic-declared p b);
       len_value =
-        ap length (c.divisor-rest.ensures.result_value ∙ rest_is p c.requires.le_p c.requires.prime a b c.requires.neighbours monic-is work.row_after);
+          ap length (c.divisor-rest.ensures.result_value ∙ rest_is p c.requires.le_p c.requires.prime a b c.requires.neighbours monic-is work.row_after);
     }

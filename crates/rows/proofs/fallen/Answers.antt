@@ -1,6 +1,5 @@
 -- `rows::fallen`: the second row cut to its true row, and the power of the first one's lead.
 use native.Mathlib.Omega.{arith}
-use borrow.Author.Rules.{rules}
 use Rattle.euclid.specs.RowLaws.{trim-length}
 use Rattle.rows.proofs.Fall.{constant-value, vanish-value, true_row, fall-value}
 use Rattle.rows.proofs.Trim.{trim-front-length}
@@ -8,11 +7,11 @@ use Rattle.rows.proofs.fallen.Goals as goal
 
 pub returns-then-m-eq0 : goal.returns-then-m-eq0
 returns-then-m-eq0 c =
-    constant-value c.args.p c.pre.0 c.args.u.now c.args.w.now (omega (arith, c.if-m-eq0.taken)) c.power.ensures.0 c.power.ensures.1
+    constant-value c.args.p c.requires.le_p c.args.u.now c.args.w.now (omega (arith, c.if-m-eq0.true)) c.power.ensures.0 c.power.ensures.1
 
 pub returns-then-len-eq0 : goal.returns-then-len-eq0
 returns-then-len-eq0 c =
-    vanish-value c.args.p c.pre.0 c.args.u.now c.args.w.now c.true_length-len.ensures (omega (arith, c.if1.left)) c.if-len-eq0.taken
+    vanish-value c.args.p c.requires.le_p c.args.u.now c.args.w.now c.true_length-len.ensures (omega (arith, c.if-m-eq0.false)) c.if-len-eq0.true
 
 pub overflow_sub-n-2 : goal.overflow_sub-n-2
 overflow_sub-n-2 c = omega (arith, c.true_length-len.ensures, trim-length c.args.w.now)
@@ -23,11 +22,10 @@ slice_bounds-resultant_in-end c = omega (arith, c.true_length-len.ensures, trim-
 pub slice_bounds-resultant_in-end-2 : goal.slice_bounds-resultant_in-end-2
 slice_bounds-resultant_in-end-2 c = trim-front-length _ c.true_length-len.ensures
 
-pub resultant_in-rest-requires : goal.resultant_in-rest-requires
-resultant_in-rest-requires c =
-    let row = true_row c.args.p c.pre.0 c.args.u.now c.args.w.now c.true_length-len.ensures c.pre.1.1.1 c.if-len-eq0.left in
-    (c.pre.0, (c.pre.1.0, (c.pre.1.1.0, row)))
+pub resultant_in-rest-requires-clause-row_2 : goal.resultant_in-rest-requires-clause-row_2
+resultant_in-rest-requires-clause-row_2 c =
+    true_row c.args.p c.requires.le_p c.args.u.now c.args.w.now c.true_length-len.ensures c.requires.declared c.if-len-eq0.false
 
 pub returns : goal.returns
 returns c =
-    fall-value c.args.p c.pre.0 c.args.u.now c.args.w.now c.true_length-len.ensures c.pre.1.0 c.pre.1.1.0 c.pre.1.1.1 c.if-len-eq0.left _ c.power-high.ensures.1 c.resultant_in-rest.ensures.0 c.mul.ensures
+    fall-value c.args.p c.requires.le_p c.args.u.now c.args.w.now c.true_length-len.ensures c.requires.prime c.requires.row c.requires.declared c.if-len-eq0.false _ c.power-high.ensures.1 c.resultant_in-rest.ensures.value_value c.mul.ensures

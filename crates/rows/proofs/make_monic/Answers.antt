@@ -3,7 +3,6 @@ use Prim.Native.Nat.{◌-◌}
 use native.Mathlib.Omega.{arith}
 use mathlib.Core.Path.{◌∙◌}
 use lib.ListN.{length}
-use borrow.Author.Rules.{rules}
 use Rattle.rows.proofs.Bounds.{last_some}
 use Rattle.rows.proofs.Monic.{monic_code, monic-same}
 use Rattle.rows.proofs.make_monic.Goals as goal

@@ -2,9 +2,8 @@
 use Prim.Native.Nat.{◌-◌}
 use native.Mathlib.Omega.{arith}
 use native.Mathlib.Nat.{mod-lt}
-use borrow.Author.Rules.{rules}
 use Rattle.rows.proofs.Bounds.{declared-minus, below-drop}
-use Rattle.rows.proofs.Work.{Work, work_first, work_more, work-last, part_end, part_length}
+use Rattle.rows.proofs.Work.{work_first, work_more, work-last, part_end, part_length}
 use Rattle.rows.proofs.reduce.Goals as goal
 
 pub loop-k-init : goal.loop-k-init

@@ -1,10 +1,5 @@
 -- `rows::reduce`: each turn divides one place more, from the top of the quotient down.
-use Prim.Native.Nat.{◌-◌}
-use native.Mathlib.Omega.{arith}
-use native.Mathlib.Nat.{mod-lt}
-use borrow.Author.Rules.{rules}
-use Rattle.rows.proofs.Bounds.{declared-minus, below-drop}
-use Rattle.rows.proofs.Work.{Work, work_first, work_more, work-last, part_end, part_length}
+use Rattle.rows.proofs.Work.{Work}
 use Rattle.rows.proofs.reduce.Given as goal
 
 abbrev pub invariant-loop-k : goal.invariant-loop-k

@@ -3,7 +3,6 @@ use Prim.Native.Nat.{ℕ}
 use mathlib.Core.List.{List}
 use mathlib.Core.Path.{sym, ap, ap₂, ◌∙◌}
 use lib.ListN.{length}
-use borrow.Author.Rules.{rules}
 use Rattle.residue.specs.Residue.{val}
 use Rattle.euclid.specs.Sequence.{row_resultant, row_steps}
 use Rattle.rows.proofs.Copied.{copied-front}
@@ -15,18 +14,13 @@ slice_bounds-resultant_in-end c = sym (ap length (copied-front c.args.a.now _ c.
 pub slice_bounds-resultant_in-end-2 : goal.slice_bounds-resultant_in-end-2
 slice_bounds-resultant_in-end-2 c = sym (ap length (copied-front c.args.b.now _ c.copy-2.ensures))
 
-pub resultant_in-requires : goal.resultant_in-requires
-resultant_in-requires c =
-    (
-      c.requires.le_p,
-      (
-        c.requires.prime,
-        (
-          rw (copied-front c.args.a.now _ c.copy.ensures) c.requires.row,
-          rw (copied-front c.args.b.now _ c.copy-2.ensures) c.requires.row_2,
-        ),
-      ),
-    )
+pub resultant_in-requires-clause-row : goal.resultant_in-requires-clause-row
+resultant_in-requires-clause-row c =
+    rw (copied-front c.args.a.now _ c.copy.ensures) c.requires.row
+
+pub resultant_in-requires-clause-row_2 : goal.resultant_in-requires-clause-row_2
+resultant_in-requires-clause-row_2 c =
+    rw (copied-front c.args.b.now _ c.copy-2.ensures) c.requires.row_2
 
 pub returns : goal.returns
 returns c =
@@ -34,4 +28,7 @@ returns c =
     let first = copied-front c.args.a.now _ c.copy.ensures in
     let second = copied-front c.args.b.now _ c.copy-2.ensures in
     let found = c.resultant_in.ensures in
-    (found.0 ∙ ap₂ (λ (u w : List ℕ). val p (row_resultant p u w)) first second, found.1.0 ∙ ap₂ (row_steps p) first second)
+    record {
+      value_value = found.value_value ∙ ap₂ (λ (u w : List ℕ). val p (row_resultant p u w)) first second;
+      steps_value = found.steps_value ∙ ap₂ (row_steps p) first second;
+    }

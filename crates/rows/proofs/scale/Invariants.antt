@@ -1,9 +1,7 @@
 -- `rows::scale`: each turn multiplies one entry.
 use Prim.Native.Nat.{ℕ, ◌*◌, ◌-◌, ◌%◌}
-use native.Mathlib.Omega.{arith}
-use borrow.Author.Rules.{rules}
 use lib.ListN.{length}
-use Rattle.rows.proofs.Scaled.{Scaled, scaled_first, scaled_more, scaled-last}
+use Rattle.rows.proofs.Scaled.{Scaled}
 use Rattle.rows.proofs.scale.Given as goal
 
 abbrev pub invariant-loop-i : goal.invariant-loop-i

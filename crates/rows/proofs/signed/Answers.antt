@@ -1,7 +1,6 @@
 -- `rows::signed`: by the last binary digit of the exponent.
 use native.Mathlib.Nat.{mod-lt}
 use native.Mathlib.Omega.{arith}
-use borrow.Author.Rules.{rules}
 use Rattle.rows.proofs.Value.{sign_even, sign_odd}
 use Rattle.rows.proofs.signed.Goals as goal
 

@@ -1,8 +1,6 @@
 -- `rows::subtract`: each turn sets one place.
 use Prim.Native.Nat.{◌-◌}
-use native.Mathlib.Omega.{arith}
-use borrow.Author.Rules.{rules}
-use Rattle.rows.proofs.Places.{Partly, partly_first, partly_read, partly_more, partly-last}
+use Rattle.rows.proofs.Places.{Partly}
 use Rattle.rows.proofs.subtract.Given as goal
 
 abbrev pub invariant-loop-i : goal.invariant-loop-i

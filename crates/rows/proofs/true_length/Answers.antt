@@ -1,7 +1,6 @@
 -- `rows::true_length`: the row is scanned from its end.
 use native.Mathlib.Omega.{arith}
-use borrow.Author.Rules.{rules}
-use Rattle.rows.proofs.Trim.{Trimmed, trimmed_first, trimmed-zero, trimmed-some, trimmed_none}
+use Rattle.rows.proofs.Trim.{trimmed_first, trimmed-zero, trimmed-some, trimmed_none}
 use Rattle.rows.proofs.true_length.Goals as goal
 
 pub loop-k-init : goal.loop-k-init
