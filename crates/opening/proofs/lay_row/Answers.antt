@@ -1,8 +1,5 @@
 -- `opening::lay_row`: each turn stores one entry of the row.
-use Prim.Native.Nat.{◌+◌, ◌-◌, ◌≤◌}
 use native.Mathlib.Omega.{arith}
-use Rattle.points.proofs.Stores.{Stored}
-use Rattle.opening.specs.Row.{moved}
 use Rattle.opening.proofs.Laying.{row_none, row_more, row_all}
 use Rattle.opening.proofs.lay_row.Goals as goal
 

@@ -1,8 +1,6 @@
 -- `opening::spread`: each turn lays out one row.
 use Prim.Native.Nat.{◌+◌, ◌-◌, ◌≤◌}
-use native.Mathlib.Omega.{arith}
-use mathlib.Core.Path.{sym}
-use Rattle.opening.proofs.Laying.{row_fits, Laid, laid_none, laid_more, laid_all}
+use Rattle.opening.proofs.Laying.{Laid}
 use Rattle.opening.proofs.spread.Given as goal
 
 abbrev pub invariant-loop-i : goal.invariant-loop-i
