@@ -7,10 +7,10 @@
 --   remainder p a b         the remainder of a by b: places 0 to d-1 of the work row
 --   quotient p a b          the quotient: places d to L-1
 --   count L d               coefficient steps of a division of a row of length L by one of degree d
-use Rattle.std.specs.Prelude.{ℕ, zero, suc, ◌+◌, ◌-◌, ◌*◌, ◌%◌, ◌<◌, List, [], ◌∷◌, ◌≡◌, length, get_or, take, drop}
+use Rattle.std.specs.Prelude.{ℕ, ◌+◌, ◌-◌, ◌*◌, ◌%◌, List, [], ◌∷◌, ◌≡◌, length, get_or, take, drop}
 use Rattle.ring.specs.Ring.{Ring}
 use Rattle.ring.specs.Sum.{sum}
-use Rattle.residue.specs.Residue.{residues, res}
+use Rattle.residue.specs.Residue.{residues}
 use Rattle.residue.specs.Inverse.{inverse}
 use Rattle.sylvester.specs.Sylvester.{moved}
 use Rattle.euclid.specs.Row.{coef, declared}

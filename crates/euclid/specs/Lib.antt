@@ -8,5 +8,4 @@ pub mod DivisionUnique
 pub mod Sequence
 pub mod MonicLaws
 pub mod FollowingLaws
-pub mod SequenceLaws
 pub mod StepsLaws

@@ -12,7 +12,7 @@ use Rattle.std.specs.Prelude.{ℕ, zero, suc, ◌+◌, ◌-◌, ◌*◌, ◌%◌
 use Rattle.ring.specs.Ring.{pow, sign}
 use Rattle.residue.specs.Residue.{residues, res}
 use Rattle.residue.specs.Inverse.{inverse}
-use Rattle.euclid.specs.Row.{trim, degree, lead, declared}
+use Rattle.euclid.specs.Row.{trim, degree, lead}
 use Rattle.euclid.specs.Division.{remainder}
 
 unfoldable pub monic : ℕ → List ℕ → List ℕ

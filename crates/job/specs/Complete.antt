@@ -3,8 +3,8 @@
 --   interpolant-determinant   coefficient by coefficient
 --   agrees_always             a surplus point's value is the interpolated polynomial's
 --   surplus-agrees            so a surplus point is answered 1
-use Rattle.std.specs.Prelude.{ℕ, zero, suc, ◌<◌, ◌≤◌, Bool, true, false, cond, ◌≡◌}
-use Rattle.std.proofs.Common.{arith, sym, ◌∙◌, subst}
+use Rattle.std.specs.Prelude.{ℕ, ◌<◌, true, ◌≡◌}
+use Rattle.std.proofs.Common.{arith, ◌∙◌, subst}
 use Rattle.std.proofs.Math.Path.{refl, ap}
 use Rattle.std.proofs.Math.ListN.{get_or}
 use borrow.Author.Tests.{eq-eqb, le-ltb}
@@ -15,7 +15,6 @@ use Rattle.polynomial.specs.Interpolation.{newton-value}
 use Rattle.scope.specs.Pair.{Pair, determinant}
 use Rattle.scope.specs.Point.{kept, needed, row_a, row_b}
 use Rattle.scope.specs.Number.{point_number, ◌then◌}
-use Rattle.scope.specs.Degree.{Within}
 use Rattle.scope.specs.Recovery.{Different, different_invertible, recovered, determinant-value}
 use Rattle.euclid.specs.Row.{row_determinant}
 use Rattle.residue.specs.Residue.{val-lt}

@@ -9,19 +9,19 @@
 --   demand_3               what a read answers after any list of calls on a fresh job
 --   Refused j, unsound_refused   every call with a record that is not sound is answered 16, and changes nothing
 use Prim.Native.Nat.{ℕ, zero, suc, ◌+◌, ◌-◌, ◌<◌, ◌≤◌, min}
-use Rattle.std.proofs.Common.{add-one, sym, ◌∙◌, subst, ap₂, inl, inr, ⊎_elim, take-suc-set}
+use Rattle.std.proofs.Common.{add-one, sym, ◌∙◌, subst, ap₂, inl, inr, take-suc-set}
 use native.Mathlib.Omega.{arith}
-use Rattle.std.proofs.Math.Decide.{ℕ_discrete, dec_lt}
-use Rattle.std.specs.Prelude.{Bool, true, false, cond, not, ◌&&◌, ◌||◌, ◌≡◌, ◌≢◌, ◌⊎◌, leb, ltb, eqb, get_or, take, drop, set}
+use Rattle.std.proofs.Math.Decide.{dec_lt}
+use Rattle.std.specs.Prelude.{Bool, true, false, cond, not, ◌&&◌, ◌||◌, ◌≡◌, ◌⊎◌, leb, ltb, eqb, take, drop, set}
 use mathlib.Core.List.{List, [], ◌∷◌, ◌++◌}
 use Rattle.std.proofs.Math.Path.{refl, ap, fun_ext}
 use Rattle.std.proofs.Math.ListN.{length}
-use borrow.Author.Tests.{ltb-true, ltb-false, lt-ltb, le-ltb, le-leb, lt-leb, eq-eqb, ne_eqb}
+use borrow.Author.Tests.{ltb-true, ltb-false, lt-ltb, le-ltb, le-leb, lt-leb}
 use Rattle.scope.specs.Pair.{Pair, tables, some, largest, coefficient}
 use Rattle.scope.specs.Answers.{only_done}
 use Rattle.scope.specs.Point.{tabulate, usable, needed, room}
 use Rattle.scope.specs.Usable.{and_true}
-use Rattle.scope.specs.Number.{among, point_number, lot_number, read_number, open_number, ◌gives◌otherwise◌}
+use Rattle.scope.specs.Number.{among, lot_number, read_number, open_number, ◌gives◌otherwise◌}
 use Rattle.job.specs.declared.Job.{Job}
 use Rattle.job.specs.Job.{pair_of, opened, kept_points, stored}
 use Rattle.job.specs.Calls.{offer_number, offered, lotted, reading, wanted, written, nonzero, degree_of, is_zero}
@@ -32,7 +32,7 @@ use Rattle.job.specs.Standing.{Standing}
 use Rattle.job.specs.SamePair.{SamePair, same-bound, same-needed, same-room, same-usable, same-coefficient}
 use Rattle.scope.specs.TestLaws.{point_number-zero}
 use Rattle.job.specs.OpenLaws.{opened-same, opened_standing}
-use Rattle.job.specs.StandingLaws.{offer-kept, kept_offer, offered-kept, offered_else, stored_pair, stored_standing, offered_standing, lotted_standing, offered_pair, lotted_pair, lotted-append, needed_fits}
+use Rattle.job.specs.StandingLaws.{offer-kept, kept_offer, offered-kept, offered_else, stored_pair, stored_standing, lotted_standing, lotted_pair, lotted-append, needed_fits}
 use Rattle.job.specs.SoundLaws.{standing_test, sound_test}
 
 -- on a sound job a call gives what it gives without the test

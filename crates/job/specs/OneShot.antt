@@ -8,10 +8,10 @@
 --   smallest-length, smallest_rising   the points that the one-shot takes: as many as are needed, usable, rising, below p
 --   smallest_least           a usable point that it does not take is larger than every one that it takes
 --   one_shot_calls           the one-shot's answer, degree and output are those of the read after opening and offering
-use Prim.Native.Nat.{ℕ, zero, suc, ◌+◌, ◌<◌, ◌≤◌, min}
-use Rattle.std.proofs.Common.{zero-add, arith, sym, ◌∙◌, subst, length-take}
+use Prim.Native.Nat.{ℕ, zero, suc, ◌<◌, ◌≤◌}
+use Rattle.std.proofs.Common.{arith, sym, ◌∙◌, length-take}
 use Rattle.std.proofs.Math.Decide.{ℕ_discrete}
-use Rattle.std.specs.Prelude.{Bool, cond, ◌&&◌, ◌||◌, leb, ltb, take, drop}
+use Rattle.std.specs.Prelude.{Bool, cond, ◌||◌, take}
 use Rattle.std.proofs.Math.Bool.{true, false}
 use mathlib.Core.List.{List, [], ◌∷◌, ◌++◌, append-nil}
 use Rattle.std.proofs.Math.Path.{◌≡◌, refl, ap}
@@ -22,12 +22,10 @@ use Rattle.scope.specs.Pair.{Pair, tables}
 use Rattle.scope.specs.Point.{usable, usables, enough, needed, room, smallest}
 use Rattle.scope.specs.Number.{among, open_number, one_shot_number, ◌then◌, ◌gives◌otherwise◌}
 use Rattle.scope.specs.Answers.{only_done}
-use Rattle.job.specs.declared.Job.{Job}
-use Rattle.job.specs.Job.{pair_of, opened}
-use Rattle.job.specs.Calls.{written, degree_of, is_zero}
-use Rattle.job.specs.Public.{read_answer, read_out, read_degree, read_zero, shot_answer, shot_out, shot_degree, shot_zero, out_after, zero_flag}
+use Rattle.job.specs.Job.{opened}
+use Rattle.job.specs.Public.{read_answer, read_out, read_degree, read_zero, shot_answer, shot_out, shot_degree, shot_zero, out_after}
 use Rattle.job.specs.Demand.{Call, lot, run, points_of, all_points, counts, counting, distinct, offered_count}
-use Rattle.job.specs.OpenLaws.{Accepted, accepted}
+use Rattle.job.specs.OpenLaws.{accepted}
 use Rattle.job.specs.DemandLaws.{among_snoc, demand_3}
 
 abbrev pub Rising : Pair → ℕ → ℕ → List ℕ → Type 0

@@ -9,7 +9,7 @@
 --   read_degree, read_zero        the true degree, and 1 where the polynomial is zero (0 for every refusal)
 --   read_out                     the lent output at exit
 --   shot_answer .. shot_out       the same for the one-shot
-use Rattle.std.specs.Prelude.{ℕ, Bool, cond, List, ◌++◌, eqb, length, drop}
+use Rattle.std.specs.Prelude.{ℕ, cond, List, ◌++◌, eqb, length, drop}
 use Rattle.scope.specs.Pair.{Pair, tables}
 use Rattle.scope.specs.Point.{room}
 use Rattle.scope.specs.Number.{open_number, one_shot_number, lot_number}

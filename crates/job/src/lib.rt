@@ -1,7 +1,6 @@
 // The job: two polynomials, and the points kept so far with their values.
 #![tactic(auto)]
 
-
 // A record of whole numbers alone, so that every pattern of its bytes is a record: the calls check it.
 // The coefficient of x^i y^j of A stands at 17 i + j of `a`, and so for B.
 #[repr(C)]

@@ -11,7 +11,7 @@ use Rattle.residue.specs.Residue.{val}
 use Rattle.euclid.specs.Row.{declared, row_determinant}
 use Rattle.euclid.specs.Division.{remainder, quotient, count}
 use Rattle.euclid.specs.Sequence.{row_resultant, row_steps}
-use Rattle.euclid.specs.SequenceLaws.{row_resultant-right}
+use Rattle.euclid.proofs.SequenceLaws.{row_resultant-right}
 use Rattle.euclid.specs.StepsLaws.{row_steps-bound}
 use Rattle.scope.specs.Number.{row_number, plain_number, division_number}
 use Rattle.scope.specs.Answers.{only_done, row_value, row_count, plain_value, divided_row, divided_count}

@@ -1,3 +1,2 @@
 // Polynomials over a commutative ring: definitions and laws only, in specs/.
 #![tactic(auto)]
-

@@ -1,3 +1,2 @@
 // Residues modulo a prime: definitions and laws only, in specs/.
 #![tactic(auto)]
-

@@ -1,6 +1,6 @@
 -- Laws of every commutative ring: zero, negatives, powers and signs.
 use Prim.Native.Nat.{ℕ, zero, suc, ◌+◌, ◌*◌}
-use Rattle.std.proofs.Common.{add-suc, add-zero, ◌∙◌}
+use Rattle.std.proofs.Common.{◌∙◌}
 use Rattle.std.proofs.Math.Nat.{suc-add, zero-add, mul-suc, mul-zero}
 use Rattle.std.specs.Prelude.{◌≡◌}
 use Rattle.std.proofs.Math.Path.{refl, sym, ap}

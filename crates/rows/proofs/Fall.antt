@@ -23,7 +23,7 @@ use Rattle.euclid.specs.Row.{coef, trim, declared, degree, row_determinant}
 use Rattle.euclid.specs.RowLaws.{Ended, trim-below, trim-ended, trim-length}
 use Rattle.euclid.specs.FallLaws.{determinant_swap, determinant_fall-right, determinant_constant, determinant_vanish, determinant_both, determinant-one}
 use Rattle.euclid.specs.Sequence.{row_resultant}
-use Rattle.euclid.specs.SequenceLaws.{row_resultant-right}
+use Rattle.euclid.proofs.SequenceLaws.{row_resultant-right}
 use Rattle.rows.specs.Given.{IsRow, IsDeclared}
 use Rattle.rows.proofs.Bounds.{declared-minus}
 use Rattle.rows.proofs.Trim.{trim-front}

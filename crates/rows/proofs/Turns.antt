@@ -26,7 +26,7 @@ use Rattle.euclid.specs.Sequence.{monic, following, sequence, by_last, formula, 
 use Rattle.euclid.specs.MonicLaws.{monic-length, monic-declared, monic-last}
 use Rattle.euclid.specs.FollowingLaws.{Neighbours, next, following_none, following-some}
 use Rattle.euclid.specs.StepsLaws.{steps-bound}
-use Rattle.euclid.specs.SequenceLaws.{formula_two, formula_step, formula_head}
+use Rattle.euclid.proofs.SequenceLaws.{formula_two, formula_step, formula_head}
 use Rattle.rows.specs.Last.{last_row, Lies}
 use Rattle.rows.proofs.Bounds.{declared-minus}
 use Rattle.rows.proofs.Sides.{lies_swap, lies-front}

@@ -4,7 +4,7 @@
 --   row_value, row_count        the row resultant's value and steps
 --   plain_value                the plain determinant's value
 --   divided_row, divided_count  the work row after a division, and the count of steps
-use Rattle.std.specs.Prelude.{ℕ, Bool, cond, List, ◌++◌, eqb, length}
+use Rattle.std.specs.Prelude.{ℕ, cond, List, ◌++◌, eqb, length}
 use Rattle.residue.specs.Residue.{val}
 use Rattle.euclid.specs.Row.{declared, row_determinant}
 use Rattle.euclid.specs.Division.{remainder, quotient, count}

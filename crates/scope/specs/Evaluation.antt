@@ -4,13 +4,12 @@
 --   total-row_bound       added up over n + m rows: n d + m e
 --   takes-resultant      coefficients of degree at most d and e in y: the determinant has degree at most n d + m e, and
 --                        its value at a point is the determinant of the values there
-use Prim.Native.Nat.{ℕ, zero, suc, ◌+◌, ◌*◌, ◌<◌, ◌≤◌}
-use Rattle.std.proofs.Common.{add_comm, zero-add, suc-add, add_assoc, zero-mul, suc-mul, arith, sym, ◌∙◌}
+use Prim.Native.Nat.{ℕ, zero, suc, ◌+◌, ◌*◌, ◌≤◌}
+use Rattle.std.proofs.Common.{add_comm, zero-add, suc-add, zero-mul, suc-mul, arith, sym, ◌∙◌}
 use Rattle.std.specs.Prelude.{◌≡◌, refl}
 use Rattle.std.proofs.Math.Path.{ap, subst}
 use Rattle.ring.specs.Ring.{Ring}
 use Rattle.ring.specs.Matrix.{stack}
-use Rattle.ring.specs.Det.{det}
 use Rattle.sylvester.specs.Sylvester.{top, moved, sylvester, resultant}
 use Rattle.polynomial.specs.Poly.{poly}
 use Rattle.polynomial.specs.Value.{Takes, total, takes-𝟘, takes-det}

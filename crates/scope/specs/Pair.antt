@@ -13,7 +13,7 @@
 --   polynomial p A       A as a polynomial in x whose coefficients are polynomials in y modulo p
 --   determinant P        the determinant of Sylvester's matrix of A and B over the polynomials in y modulo p
 --   coefficient P k      its coefficient of y^k, as a number below p
-use Rattle.std.specs.Prelude.{ℕ, zero, suc, ◌+◌, ◌*◌, Bool, true, false, cond, not, ◌||◌, List, leb, eqb, get_or}
+use Rattle.std.specs.Prelude.{ℕ, zero, suc, ◌+◌, ◌*◌, Bool, false, cond, not, ◌||◌, List, leb, eqb, get_or}
 use Rattle.ring.specs.Ring.{Ring}
 use Rattle.residue.specs.Residue.{residues, res, val}
 use Rattle.sylvester.specs.Sylvester.{resultant}

@@ -7,16 +7,16 @@
 --   determinant-value         at every point the determinant's value is the one that is kept there
 --   recovered                 a polynomial with the kept values at as many different points as are needed
 --                             is the determinant
-use Prim.Native.Nat.{ℕ, zero, suc, ◌+◌, ◌<◌, ◌≤◌}
-use Rattle.std.proofs.Common.{add-one, arith, sym, ap, ◌∙◌, subst}
-use Rattle.std.specs.Prelude.{◌≡◌, refl, ◌≢◌}
+use Prim.Native.Nat.{ℕ, zero, suc, ◌<◌, ◌≤◌}
+use Rattle.std.proofs.Common.{add-one, arith, sym, ap, ◌∙◌}
+use Rattle.std.specs.Prelude.{◌≡◌, ◌≢◌}
 use Rattle.ring.specs.Ring.{Ring}
 use Rattle.ring.specs.RingLaws.{sub-zero-eq}
 use Rattle.residue.specs.Prime.{Prime}
 use Rattle.residue.specs.Residue.{residues, res, val, val-res_small, val-𝟘, val-𝟙, res-val}
 use Rattle.residue.specs.Inverse.{inv, inv_right, domain}
-use Rattle.polynomial.specs.Value.{value, Takes}
-use Rattle.polynomial.specs.Interpolation.{Regular, Invertible, newton, newton-value, newton-bound, product, product_value, prod, invertible_regular, value_unique}
+use Rattle.polynomial.specs.Value.{value}
+use Rattle.polynomial.specs.Interpolation.{Invertible, newton, newton-value, newton-bound, product, product_value, prod, invertible_regular, value_unique}
 use Rattle.euclid.specs.Row.{row_determinant}
 use Rattle.scope.specs.Pair.{Pair, bound, determinant}
 use Rattle.scope.specs.Point.{row_a, row_b, kept, needed}

@@ -3,20 +3,19 @@
 --   row_at-below          the entries of a row at a point are residues
 --   usable-ended         at a usable point both rows end in a nonzero entry
 --   kept-resultant       the kept value is the resultant formula's
-use Rattle.std.specs.Prelude.{ℕ, zero, suc, ◌<◌, ◌≤◌, Bool, true, false, not, ◌&&◌, ◌≡◌, refl, ◌≢◌, eqb, length, get_or}
-use Rattle.std.proofs.Common.{arith, sym, ap, ◌∙◌, subst}
+use Rattle.std.specs.Prelude.{ℕ, suc, ◌<◌, ◌≤◌, Bool, true, false, not, ◌&&◌, ◌≡◌, refl, eqb, length, get_or}
+use Rattle.std.proofs.Common.{arith, sym, ap, ◌∙◌}
 use Rattle.std.proofs.Math.Decide.{dec_lt}
 use Rattle.std.proofs.Math.ListN.{get_or-eq_default}
 use Rattle.std.proofs.lemmas.Bool.{eqb-false, not-true}
 use Rattle.residue.specs.Prime.{Prime}
 use Rattle.residue.specs.Residue.{residues, res, val, val-lt}
 use Rattle.polynomial.specs.Value.{value}
-use Rattle.euclid.specs.Row.{declared, row_determinant}
 use Rattle.euclid.specs.RowLaws.{Below, Ended}
 use Rattle.euclid.specs.Sequence.{row_resultant}
-use Rattle.euclid.specs.SequenceLaws.{row_resultant-right}
+use Rattle.euclid.proofs.SequenceLaws.{row_resultant-right}
 use Rattle.scope.specs.Pair.{Pair, polynomial}
-use Rattle.scope.specs.Point.{tabulate, value_at, row_at, row_a, row_b, usable, kept}
+use Rattle.scope.specs.Point.{value_at, row_at, row_a, row_b, usable, kept}
 use Rattle.scope.specs.Degree.{tabulate-length, tabulate-get_or, row_at-declared}
 
 pub row_at-length : (p m e : ℕ) (A : ℕ → ℕ → ℕ) (a : ℕ) → length (row_at p m e A a) ≡ suc m

@@ -18,13 +18,13 @@
 --   resultant-monic_step        one step of the monic remainder sequence
 use Prim.Native.Nat.{ℕ, zero, suc, ◌+◌, ◌-◌, ◌*◌, ◌<◌, ◌≤◌}
 use Rattle.std.proofs.Math.Nat.{zero-add, suc-add, add-suc, add-zero}
-use Rattle.std.proofs.Common.{add_comm, mul_comm, mul-suc, mul-zero, mul-add, add-one, ◌∙◌, subst}
+use Rattle.std.proofs.Common.{add_comm, mul-suc, add-one, ◌∙◌, subst}
 use native.Mathlib.Omega.{arith}
 use Rattle.std.proofs.Math.Decide.{dec_lt}
 use Rattle.std.specs.Prelude.{◌≡◌, ◌≢◌}
 use Rattle.std.proofs.Math.Path.{refl, sym, ap}
 use Rattle.ring.specs.Ring.{Ring, pow, sign}
-use Rattle.ring.specs.RingLaws.{⊗-zero, zero-⊕, zero-⊗, one-⊗, sign_twice, ⊗_left_comm, pow-one}
+use Rattle.ring.specs.RingLaws.{⊗-zero, zero-⊗, one-⊗, sign_twice, ⊗_left_comm, pow-one}
 use Rattle.ring.specs.Det.{det, skip}
 use Rattle.ring.specs.Sum.{sum}
 use Rattle.ring.specs.Matrix.{stack, stack_low, stack_high}

@@ -6,12 +6,12 @@
 --   top_shift                the coefficients of x^k b at degree m, highest first, are those of b moved right
 use Prim.Native.Nat.{ℕ, zero, suc, ◌+◌, ◌-◌, ◌<◌, ◌≤◌}
 use Rattle.std.proofs.Math.Nat.{zero-add, suc-add}
-use Rattle.std.proofs.Common.{add-suc, add-zero, arith, ◌∙◌}
+use Rattle.std.proofs.Common.{arith, ◌∙◌}
 use Rattle.std.proofs.Math.Decide.{dec_lt}
 use Rattle.std.specs.Prelude.{◌≡◌}
 use Rattle.std.proofs.Math.Path.{refl, sym, ap}
 use Rattle.ring.specs.Ring.{Ring}
-use Rattle.ring.specs.RingLaws.{⊗-zero, zero-⊕, zero-⊗}
+use Rattle.ring.specs.RingLaws.{⊗-zero}
 use Rattle.sylvester.specs.Sylvester.{top, moved}
 
 module _ (R : Ring) where
