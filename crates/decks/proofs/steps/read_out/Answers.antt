@@ -4,7 +4,6 @@ use native.Mathlib.Omega.{arith}
 use lib.ListN.{length-replicate}
 use Rattle.job.specs.StandingLaws.{needed_fits}
 use Rattle.decks.proofs.Answers.{read_wanting, read_done}
-use borrow.Author.Rules.{rules}
 use Rattle.decks.proofs.steps.read_out.Goals as goal
 
 pub returns-then-answer-ne0 : goal.returns-then-answer-ne0

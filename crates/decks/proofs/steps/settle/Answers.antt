@@ -1,11 +1,8 @@
 -- `decks::steps::settle`: each kind in turn; what is none of the first five is the last.
-use Prim.Native.Nat.{◌≤◌}
 use native.Mathlib.Omega.{arith}
-use mathlib.Core.Path.{◌≡◌, ◌∙◌}
-use lib.ListN.{length}
+use mathlib.Core.Path.{◌∙◌}
 use Rattle.decks.specs.Deck.{body_length}
 use Rattle.decks.proofs.Settling.{whole, last_kind, within-tables, open_job_lem, step_silent, taken-modulus, taken_degrees, taken-place, settled_open, settled_read}
-use borrow.Author.Rules.{rules}
 use Rattle.decks.proofs.steps.settle.Goals as goal
 
 pub with_modulus-requires : goal.with_modulus-requires

@@ -2,7 +2,6 @@
 use mathlib.Core.Path.{refl, sym, ◌∙◌}
 use Rattle.decks.specs.DeckLaws.{stepped_refused}
 use Rattle.decks.specs.StepLaws.{stepped-settled}
-use borrow.Author.Rules.{rules}
 use Rattle.decks.proofs.steps.step.Goals as goal
 
 pub returns-then-number-ne0 : goal.returns-then-number-ne0

@@ -1,11 +1,8 @@
 -- `decks::steps::step_open`: by what the strict opening at degree 16 in y answers.
 use native.Mathlib.Omega.{arith}
-use mathlib.Core.Path.{sym}
-use lib.Seq.{length-take-le}
 use Rattle.scope.specs.Point.{needed}
 use Rattle.decks.specs.Deck.{with_job}
-use Rattle.decks.proofs.Answers.{Answered, answered-front, accepted_stands, opening_refused, opening_accepted}
-use borrow.Author.Rules.{rules}
+use Rattle.decks.proofs.Answers.{answered-front, accepted_stands, opening_refused, opening_accepted}
 use Rattle.decks.proofs.steps.step_open.Goals as goal
 
 pub returns-then-answer-ne0 : goal.returns-then-answer-ne0

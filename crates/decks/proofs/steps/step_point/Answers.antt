@@ -1,7 +1,6 @@
 -- `decks::steps::step_point`: the offer of the number in the body.
 use Rattle.decks.specs.Deck.{with_job}
 use Rattle.decks.proofs.Settling.{step_point}
-use borrow.Author.Rules.{rules}
 use Rattle.decks.proofs.steps.step_point.Goals as goal
 
 pub returns : goal.returns

@@ -1,6 +1,5 @@
 -- `decks::steps::step_read`: the line, and nothing else.
 use Rattle.decks.proofs.Settling.{step_read}
-use borrow.Author.Rules.{rules}
 use Rattle.decks.proofs.steps.step_read.Goals as goal
 
 pub returns : goal.returns
