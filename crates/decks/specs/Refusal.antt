@@ -16,7 +16,7 @@
 --   stage-place                 one of kind 3 the stage 2,
 --   stage_open                  an offer or a read the stage 3
 use Rattle.std.specs.Prelude.{ℕ, ◌≤◌, ◌<◌, Bool, true, false, not, ◌&&◌, ◌||◌, cond, List, ◌≡◌, ltb, length}
-use Rattle.std.proofs.Math.Bool.{and_true, and-false, or_false as Bool·or-false}
+use Rattle.std.proofs.Math.Bool.{and-true, and-false, or-false as Bool·or-false}
 use Rattle.std.proofs.Math.Path.{refl}
 use Rattle.std.proofs.Common.{arith}
 use Rattle.std.proofs.Math.Dec.{eqb}
@@ -120,15 +120,15 @@ module _ (d : Deck) (k : ℕ) (body : List ℕ) (h : Arrived d k body) where
 
   pub stage-modulus : k ≡ 1 → d.stage ≡ 0
   unfolding in_order
-  stage-modulus e = eqb-true d.stage 0 (simp (and_true, and-false, Bool·or-false) at (rw e at order))
+  stage-modulus e = eqb-true d.stage 0 (simp (and-true, and-false, Bool·or-false) at (rw e at order))
 
   pub stage_degrees : k ≡ 2 → d.stage ≡ 1
   unfolding in_order
-  stage_degrees e = eqb-true d.stage 1 (simp (and_true, and-false, Bool·or-false) at (rw e at order))
+  stage_degrees e = eqb-true d.stage 1 (simp (and-true, and-false, Bool·or-false) at (rw e at order))
 
   pub stage-place : k ≡ 3 → d.stage ≡ 2
   unfolding in_order
-  stage-place e = eqb-true d.stage 2 (simp (and_true, and-false, Bool·or-false) at (rw e at order))
+  stage-place e = eqb-true d.stage 2 (simp (and-true, and-false, Bool·or-false) at (rw e at order))
 
   pub stage_open : 4 < k → d.stage ≡ 3
   unfolding in_order
