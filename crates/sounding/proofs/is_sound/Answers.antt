@@ -1,6 +1,5 @@
 -- `sounding::is_sound`: the kept pairs only where the pair is sound. Every record is shaped, by the lengths of its arrays.
 use mathlib.Core.Path.{sym, ◌∙◌}
-use borrow.Author.Rules.{rules}
 use Rattle.sounding.proofs.Record.{record_lengths, record-shaped, record_fails, record_decided}
 use Rattle.sounding.proofs.is_sound.Goals as goal
 

@@ -5,7 +5,6 @@ use mathlib.Core.Path.{sym, ◌∙◌}
 use Rattle.scope.specs.Pair.{tables}
 use Rattle.sounding.proofs.Opened.{usable_asks, kept_asks}
 use Rattle.sounding.proofs.Pairs.{at_bad, at_value}
-use borrow.Author.Rules.{rules}
 use Rattle.sounding.proofs.kept_pair.Goals as goal
 
 pub returns-then-p-a : goal.returns-then-p-a

@@ -1,9 +1,7 @@
 -- `sounding::kept_pairs`: the pairs passed would have been kept.
-use Prim.Native.Nat.{◌-◌}
 use native.Mathlib.Omega.{arith}
 use mathlib.Core.Path.{sym, ◌∙◌}
-use Rattle.scope.specs.Pair.{tables}
-use Rattle.sounding.proofs.Pairs.{Passed, passed_none, passed_more, passed_bad, passed_all}
+use Rattle.sounding.proofs.Pairs.{passed_none, passed_more, passed_bad, passed_all}
 use Rattle.sounding.proofs.kept_pairs.Goals as goal
 
 pub loop-i-init : goal.loop-i-init

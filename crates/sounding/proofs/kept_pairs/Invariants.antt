@@ -1,10 +1,7 @@
 -- `sounding::kept_pairs`: the pairs passed would have been kept.
 use Prim.Native.Nat.{◌-◌}
-use native.Mathlib.Omega.{arith}
-use mathlib.Core.Path.{sym, ◌∙◌}
-use borrow.Author.Tests.{not-true, not-false}
 use Rattle.scope.specs.Pair.{tables}
-use Rattle.sounding.proofs.Pairs.{Passed, passed_none, passed_more, passed_bad, passed_all}
+use Rattle.sounding.proofs.Pairs.{Passed}
 use Rattle.sounding.proofs.kept_pairs.Given as goal
 
 abbrev pub invariant-loop-i : goal.invariant-loop-i

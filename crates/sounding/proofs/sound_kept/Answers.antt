@@ -3,7 +3,6 @@ use native.Mathlib.Omega.{arith}
 use mathlib.Core.Path.{sym, ◌∙◌}
 use Rattle.sounding.proofs.Opened.{needed_asks, needed_low}
 use Rattle.sounding.proofs.Kept.{kept_fails, kept_decided, count_many, count_few}
-use borrow.Author.Rules.{rules}
 use Rattle.sounding.proofs.sound_kept.Goals as goal
 
 pub needed-requires : goal.needed-requires

@@ -2,7 +2,6 @@
 use mathlib.Core.Bool.{not}
 use mathlib.Core.Path.{sym, ap, ◌∙◌}
 use Rattle.sounding.proofs.Numbers.{numbers_fail, numbers_decided}
-use borrow.Author.Rules.{rules}
 use Rattle.sounding.proofs.sound_numbers.Goals as goal
 
 pub returns-then-outside : goal.returns-then-outside

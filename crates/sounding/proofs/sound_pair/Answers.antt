@@ -2,9 +2,7 @@
 use mathlib.Core.Path.{sym, ◌∙◌}
 use Rattle.sounding.proofs.Numbers.{numbers}
 use Rattle.sounding.proofs.Record.{record_lengths, pair_fails, pair_decided}
-use borrow.Author.Rules.{rules}
 use Rattle.sounding.proofs.sound_pair.Goals as goal
-
 
 pub returns-then-not-sound_numbers : goal.returns-then-not-sound_numbers
 returns-then-not-sound_numbers c = pair_fails _ (sym c.sound_numbers.ensures ∙ c.if-not-sound_numbers.true)

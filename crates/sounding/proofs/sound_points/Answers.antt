@@ -1,7 +1,6 @@
 -- `sounding::sound_points`: what the test of the pair has shown, handed on with the arrays.
 use mathlib.Core.Path.{◌∙◌}
 use Rattle.sounding.proofs.Record.{record_lengths, points_asks, points_kept}
-use borrow.Author.Rules.{rules}
 use Rattle.sounding.proofs.sound_points.Goals as goal
 
 pub sound_kept-requires : goal.sound_kept-requires

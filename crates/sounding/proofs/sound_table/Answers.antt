@@ -1,5 +1,4 @@
 -- `sounding::sound_table`: each test in turn.
-use borrow.Author.Rules.{rules}
 use native.Mathlib.Omega.{arith}
 use mathlib.Core.Bool.{not}
 use mathlib.Core.Path.{sym, ap, ◌∙◌}
@@ -27,7 +26,7 @@ returns-then-no_lead c = table_fails _ _ _ _ 2 (ap not (sym (front_lead _ _) ∙
 pub returns : goal.returns
 returns c =
     table_decided _ _ _ _
-    (sym c.over.ensures ∙ c.if1.left)
-    (sym c.zeros_from.ensures ∙ not-false _ c.if2.left)
+    (sym c.over.ensures ∙ c.if-over.false)
+    (sym c.zeros_from.ensures ∙ c.if-not-zeros_from.false)
     (sym (front_lead _ _) ∙ sym c.no_lead.ensures ∙ c.if-no_lead.false)
     c.true_degree.ensures

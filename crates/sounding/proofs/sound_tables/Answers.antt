@@ -2,7 +2,6 @@
 use native.Mathlib.Omega.{arith}
 use mathlib.Core.Path.{sym, ◌∙◌}
 use Rattle.sounding.proofs.Opened.{table_degrees, tables_fail, tables_decided}
-use borrow.Author.Rules.{rules}
 use Rattle.sounding.proofs.sound_tables.Goals as goal
 
 pub returns-then-not-sound_table : goal.returns-then-not-sound_table

@@ -1,9 +1,7 @@
 -- `sounding::zeros_from`: the entries passed are 0, so those from i on decide.
-use Prim.Native.Nat.{◌-◌}
 use native.Mathlib.Omega.{arith}
 use mathlib.Core.Path.{sym}
-use lib.ListN.{length}
-use Rattle.sounding.proofs.Zeros.{Clear, clear_none, clear_more, clear_broken, clear_all}
+use Rattle.sounding.proofs.Zeros.{clear_none, clear_more, clear_broken, clear_all}
 use Rattle.sounding.proofs.zeros_from.Goals as goal
 
 pub loop-i-init : goal.loop-i-init

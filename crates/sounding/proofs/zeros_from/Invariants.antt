@@ -1,9 +1,7 @@
 -- `sounding::zeros_from`: the entries passed are 0, so those from i on decide.
 use Prim.Native.Nat.{◌-◌}
-use native.Mathlib.Omega.{arith}
-use mathlib.Core.Path.{sym}
 use lib.ListN.{length}
-use Rattle.sounding.proofs.Zeros.{Clear, clear_none, clear_more, clear_broken, clear_all}
+use Rattle.sounding.proofs.Zeros.{Clear}
 use Rattle.sounding.proofs.zeros_from.Given as goal
 
 abbrev pub invariant-loop-i : goal.invariant-loop-i
