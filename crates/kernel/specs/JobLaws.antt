@@ -5,13 +5,13 @@
 --   lot_unsound, lot_short, lot_done a lot
 --   read_unsound, read_done          a read
 --   shot_done                        the one-shot
-use Prim.Native.Nat.{ℕ, zero, suc, ◌<◌, ◌≤◌}
+use Prim.Native.Nat.{ℕ, suc, ◌<◌, ◌≤◌}
 use Rattle.std.proofs.Common.{arith, ap, ◌∙◌}
-use Rattle.std.specs.Prelude.{Bool, true, false, cond, List, ◌++◌, ◌≡◌, eqb, length, get_or, drop}
+use Rattle.std.specs.Prelude.{true, false, cond, List, ◌++◌, ◌≡◌, eqb, length, get_or, drop}
 use Rattle.std.proofs.Math.Path.{refl, sym}
 use Rattle.std.proofs.Math.Dec.{eqb-suc-zero}
 use Rattle.std.proofs.Math.ListN.{get_or-append}
-use borrow.Author.Tests.{eq-eqb, lt-ltb, le-ltb}
+use borrow.Author.Tests.{lt-ltb, le-ltb}
 use Rattle.scope.specs.Pair.{Pair, tables, coefficient}
 use Rattle.scope.specs.Point.{tabulate, room}
 use Rattle.scope.specs.Number.{◌gives◌otherwise◌, lot_number}
@@ -21,9 +21,9 @@ use Rattle.job.specs.declared.Job.{Job}
 use Rattle.job.specs.declared.JobAnswer.{JobAnswer}
 use Rattle.job.specs.declared.ReadAnswer.{ReadAnswer}
 use Rattle.job.specs.Job.{pair_of}
-use Rattle.job.specs.Calls.{offer_number, offered, lot_answers, lotted, reading, wanted, written, degree_of}
+use Rattle.job.specs.Calls.{offer_number, offered, lot_answers, lotted, reading, written}
 use Rattle.job.specs.Sound.{sound?}
-use Rattle.job.specs.Public.{strict_number, strict_job, open_answer, open_job, offer_answer, offer_job, lot_answer, lot_job, lot_bytes, read_answer, read_wanted, read_degree, read_zero, read_out, out_after, zero_flag, shot_answer, shot_degree, shot_zero, shot_out}
+use Rattle.job.specs.Public.{strict_number, strict_job, open_answer, open_job, offer_answer, offer_job, lot_answer, lot_job, lot_bytes, read_answer, read_wanted, read_degree, read_zero, read_out, out_after, shot_answer, shot_out}
 use Rattle.reads.specs.Read.{ReadSound}
 use Rattle.reads.specs.Shot.{Shot}
 use Rattle.kernel.specs.Results.{OpenResult, OfferResult, LotResult, ReadResult, ShotResult}

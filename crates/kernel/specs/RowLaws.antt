@@ -3,7 +3,7 @@
 --   row_refused, row_given, row_done the row resultant: a refusal, what the work asks, the work done
 --   plain_refused ..                 the plain determinant
 --   division_refused ..              division in the work row
-use Rattle.std.specs.Prelude.{ℕ, ◌+◌, ◌*◌, ◌≤◌, ◌<◌, Bool, List, ◌++◌, ◌≡◌, refl, ◌≢◌, length}
+use Rattle.std.specs.Prelude.{ℕ, ◌+◌, ◌≤◌, ◌<◌, Bool, List, ◌++◌, ◌≡◌, refl, ◌≢◌, length}
 use Rattle.std.proofs.Common.{arith, ◌∙◌, eq-eqb, ne_eqb}
 use Rattle.std.proofs.Math.Path.{sym, ap}
 use Rattle.std.specs.Borrow.{Bor}

@@ -117,9 +117,9 @@ module _ (a b r : Bor (List ℕ)) (eb : b.now ≡ 3 ∷ 4 ∷ []) where
   unfolding computing lower first?
   divisor_uncut ea whole h = let e : ◌≡◌ {A = ℕ} 2 1 = ap length (sym ea ∙ sym whole ∙ h.stretch ∙ ap₂ lower ea eb) in omega arith
 
-  pub divisor_copied : a.now ≡ 1 ∷ 0 ∷ [] → r.ptr ≢ a.ref_ptr → DivisorResult a b r → ⊥
+  pub divisor_copied : a.now ≡ 1 ∷ 0 ∷ [] → r.ref_ptr ≢ a.ref_ptr → DivisorResult a b r → ⊥
   unfolding computing first?
-  divisor_copied ea elsewhere h = elsewhere (h.own ∙ ap₂ (λ (s t : List ℕ). pick (first? s t) a.ptr b.ptr) ea eb)
+  divisor_copied ea elsewhere h = elsewhere (h.own ∙ ap₂ (λ (s t : List ℕ). pick (first? s t) a.ref_ptr b.ref_ptr) ea eb)
 
 -- K1's pair; wide is its A with declared degree 2 in y, where the real one is 1
 abbrev narrow : List ℕ

@@ -5,10 +5,17 @@ use Rattle.sounding.proofs.Opened.{needed_asks, needed_low}
 use Rattle.sounding.proofs.Kept.{kept_fails, kept_decided, count_many, count_few}
 use Rattle.sounding.proofs.sound_kept.Goals as goal
 
-pub needed-requires : goal.needed-requires
-needed-requires c =
-    let low = needed_asks c.requires.opened in
-    record { m_bound = low.0; da_bound = low.1.0; n_bound = low.1.1.0; db_bound = low.1.1.1 }
+pub needed-requires-clause-m_bound : goal.needed-requires-clause-m_bound
+needed-requires-clause-m_bound c = let low = needed_asks c.requires.opened in omega arith
+
+pub needed-requires-clause-da_bound : goal.needed-requires-clause-da_bound
+needed-requires-clause-da_bound c = let low = needed_asks c.requires.opened in omega arith
+
+pub needed-requires-clause-n_bound : goal.needed-requires-clause-n_bound
+needed-requires-clause-n_bound c = let low = needed_asks c.requires.opened in omega arith
+
+pub needed-requires-clause-db_bound : goal.needed-requires-clause-db_bound
+needed-requires-clause-db_bound c = let low = needed_asks c.requires.opened in omega arith
 
 pub returns-then-needed-count : goal.returns-then-needed-count
 returns-then-needed-count c =
