@@ -11,7 +11,7 @@
 --   Unfailed xs                        no read failed
 --   turns-deck                         a run that stopped is the definition's run of the bytes that arrived: the text that it
 --                                      printed, and the state it left
-use Rattle.std.specs.Prelude.{ℕ, zero, suc, ◌+◌, ◌≤◌, ◌<◌, Bool, cond, not, ◌||◌, ◌≡◌, eqb}
+use Rattle.std.specs.Prelude.{ℕ, zero, suc, ◌+◌, ◌≤◌, ◌<◌, Bool, cond, not, ◌||◌, ◌≡◌}
 use Rattle.std.proofs.Common.{arith, ◌∙◌, length-take-le}
 use Rattle.std.proofs.Math.Decide.{ℕ_discrete}
 use Rattle.std.proofs.Math.Bool.{true, false}

@@ -4,7 +4,7 @@
 --   Fills need r    so many bytes came, or fewer, and then the input ended or a read failed
 --   Arrives a       a record, whole or cut; cut, or none at all, only where the input ended or a read failed
 --   bytes_of a       the bytes of the deck that arrived with it
-use Rattle.std.specs.Prelude.{ℕ, ◌≤◌, ◌<◌, Bool, true, false, cond, List, [], ◌∷◌, ◌⊎◌, ◌≡◌, length, take}
+use Rattle.std.specs.Prelude.{ℕ, ◌≤◌, ◌<◌, true, false, cond, List, [], ◌∷◌, ◌⊎◌, ◌≡◌, length, take}
 use Rattle.decks.specs.Deck.{body_length}
 use Rattle.stream.specs.declared.Piece.{Piece}
 use Rattle.stream.specs.declared.Arrival.{Arrival}

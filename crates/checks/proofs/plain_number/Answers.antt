@@ -1,5 +1,4 @@
 -- `checks::plain_number`: a row that is not refused is one entry longer than its declared degree.
-use Prim.Native.Nat.{ℕ}
 use native.Mathlib.Omega.{arith}
 use borrow.Author.Rules.{rules}
 use mathlib.Core.Path.{◌≡◌, refl, sym, ◌∙◌}

@@ -1,5 +1,4 @@
 -- `stream::next_record`: a body has at most seven bytes.
-use Rattle.std.proofs.Common.{◌≤◌}
 use Rattle.decks.specs.StepLaws.{body_low}
 use Rattle.stream.proofs.next_record.Goals as goal
 
