@@ -1,5 +1,5 @@
--- What a run of the program does with what arrives. Only what the C functions read and write is left out: no contract can
--- say it.
+-- What a run of the program does with what arrives. Only what the system's streams read and write is left out: no contract
+-- can say it.
 --
 --   told d offset a      what an arrival does in the state d: a failed read stops the run, the end of input prints `end` and
 --                        stops it, and a record is stepped
