@@ -11,14 +11,18 @@
 --   Turned run ..        a turn: the same, of what arrived in it; a line that is not written does not stop what is told
 --   Ran r                a whole run: some arrivals lead from the start to its state, and unless a write failed or the turns
 --                        were spent the run stopped there
-use Rattle.std.specs.Prelude.{ℕ, ◌+◌, Bool, true, false, cond, List, [], ◌∷◌, ◌++◌, ◌≡◌, take}
+--   delivered xs         the bytes of the deck that arrived
+--   Played i i' o o' r   the same, of what a reader had left before and after and what a writer held: the arrivals are the bytes
+--                        that the reader gave, and unless a write failed the writer got the text printed
+use Rattle.std.specs.Prelude.{ℕ, ◌+◌, Bool, true, false, cond, List, [], ◌∷◌, ◌++◌, Option, ◌≡◌, take}
+use Rattle.std.specs.Io.KnownBytes.{Consumes, Appends}
 use Rattle.decks.specs.declared.Deck.{Deck}
 use Rattle.lines.specs.Text.{line, end_word}
 use Rattle.decks.specs.Deck.{body_length, fresh}
 use Rattle.decks.specs.DeckLaws.{Stepped, stepped}
 use Rattle.lines.specs.Buffer.{Begins}
 use Rattle.stream.specs.declared.Arrival.{Arrival}
-use Rattle.stream.specs.Arrival.{Arrives}
+use Rattle.stream.specs.Arrival.{Arrives, bytes_of}
 use Rattle.deck.specs.declared.Run.{Run}
 use Rattle.deck.specs.declared.Going.{Going}
 use Rattle.deck.specs.declared.Progress.{Progress}
@@ -71,3 +75,12 @@ pub record Ran (r : Ending) : Type 0 where
   pub turns : Turns start arrivals last
   pub state : r.run.state ≡ last.state
   pub stopped : r.unwritten ≡ false → r.spent ≡ false → last.halt ≡ true
+
+unfoldable pub delivered : List Arrival → List ℕ
+delivered [] = []
+delivered (a ∷ xs) = bytes_of a ++ delivered xs
+
+pub record Played (input input' output output' : Option (List ℕ)) (r : Ending) : Type 0 where
+  pub ran : Ran r
+  pub read : Consumes input input' (delivered ran.arrivals)
+  pub printed : r.unwritten ≡ false → Appends output output' ran.last.text

@@ -1,2 +1,2 @@
--- The bytes that reads bring.
-mod Bytes
+-- The bytes that reads bring and writes take.
+pub mod Bytes
