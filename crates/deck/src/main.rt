@@ -95,10 +95,8 @@ fn turn<R: Read, W: Write>(input: &mut R, output: &mut W, run: Run, line: &mut [
     requires in_bounds { 5707 ≤ length line.old }
     ensures turned { Turned run line.old result line.new }
     ensures read { Consumes (R.remaining input.old) (R.remaining input.new) (bytes_of result.arrival) }
-    ensures printed {
-        result.written ≡ true →
-            Appends (W.contents output.old) (W.contents output.new) (take result.length line.new)
-    }
+    ensures printed { result.written ≡ true →
+        Appends (W.contents output.old) (W.contents output.new) (take result.length line.new) }
 {
     let arrival = next_record(input);
     let going = go(run, arrival, line);
@@ -115,9 +113,7 @@ fn turn<R: Read, W: Write>(input: &mut R, output: &mut W, run: Run, line: &mut [
 
 // A whole run. A record takes 8 bytes at most, so that with these turns no offset wraps.
 fn play<R: Read, W: Write>(input: &mut R, output: &mut W) -> Ending
-    ensures {
-        Played (R.remaining input.old) (R.remaining input.new) (W.contents output.old) (W.contents output.new) result
-    }
+    ensures { Played (R.remaining input.old) (R.remaining input.new) (W.contents output.old) (W.contents output.new) result }
 {
     let mut line = [0u8; 8192];
     let state = fresh();

@@ -1,5 +1,5 @@
-// A deck's records from a reader of bytes, and lines to a writer. What the system's own streams read and write no contract
-// can say; what can be said is what a record's arrival holds, and why it ended.
+// A deck's records from a reader of bytes, and lines to a writer: what a record's arrival holds is what the reader gave, and
+// why it ended is told. Of the system's own streams, whose bytes nothing knows, that says no more than how many there are.
 #![tactic(auto)]
 
 ghost use Rattle.std.specs.Prelude.{◌≡◌, true, ◌≤◌, ◌<◌, length, take};

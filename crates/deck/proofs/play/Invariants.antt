@@ -12,7 +12,7 @@ invariant-loop-turns g l =
       room : l.run.offset + 8 * l.turns + 8 ≤ 2 ^ 64;
       long : length l.line ≡ 8192;
       keeps :
-        Keeps (g.R.Read.remaining l.fn.input) (g.R.Read.remaining l.input) (g.W.Write.contents l.fn.output) (g.W.Write.contents l.output) l.run;
+          Keeps (g.R.Read.remaining l.fn.input) (g.R.Read.remaining l.input) (g.W.Write.contents l.fn.output) (g.W.Write.contents l.output) l.run;
     }
 
 abbrev pub decreases-loop-turns : goal.decreases-loop-turns
