@@ -1,7 +1,6 @@
 /* Pukilembo: the resultant of two polynomials in x and y modulo a prime, by elimination of x.
  *
- * Link with the archive out/libpukilembo.a that `rt lib` writes in crates/pukilembo. No call allocates, and none keeps a
- * pointer.
+ * Link with the archive that `./build` leaves in target/staticlib. No call allocates, and none keeps a pointer.
  *
  * Duties of the caller, which the kernel cannot check: a pointer with a length points to that many valid, aligned
  * numbers (any pointer that is not null will do for length 0), and a slice that a call writes to overlaps no other slice

@@ -1,4 +1,4 @@
-// Links the archive that the test command leaves in target/staticlib.
+// Links the archive that `./build` leaves in target/staticlib.
 fn main() {
     let here = std::env::var("CARGO_MANIFEST_DIR").expect("cargo sets this");
     let archive = std::path::Path::new(&here).join("../../target/staticlib");

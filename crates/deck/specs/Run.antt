@@ -1,5 +1,5 @@
--- What a run of the program does with what arrives. Only what the system's streams read and write is left out: no contract
--- can say it.
+-- What a run of the program does with what arrives, and that what arrives is what was read. Only what the system's streams
+-- read and write is left out: no contract can say it.
 --
 --   told d offset a      what an arrival does in the state d: a failed read stops the run, the end of input prints `end` and
 --                        stops it, and a record is stepped
@@ -11,14 +11,20 @@
 --   Turned run ..        a turn: the same, of what arrived in it; a line that is not written does not stop what is told
 --   Ran r                a whole run: some arrivals lead from the start to its state, and unless a write failed or the turns
 --                        were spent the run stopped there
-use Rattle.std.specs.Prelude.{ℕ, ◌+◌, Bool, true, false, cond, List, [], ◌∷◌, ◌++◌, ◌≡◌, take}
+--   delivered xs         the bytes of the deck that arrived
+--   Unfailed xs          no read failed
+--   Played i i' o o' r   the same, of what a reader had left before and after and what a writer held: the arrivals are the bytes
+--                        that the reader gave; unless a write failed the writer got the text printed; a failed read is told, and
+--                        nothing else is told as one; and only a run that goes on has its turns spent
+use Rattle.std.specs.Prelude.{ℕ, ◌+◌, Bool, true, false, cond, List, [], ◌∷◌, ◌++◌, Option, ◌≡◌, ◌↔◌, take}
+use Rattle.std.specs.Io.KnownBytes.{Consumes, Appends}
 use Rattle.decks.specs.declared.Deck.{Deck}
 use Rattle.lines.specs.Text.{line, end_word}
 use Rattle.decks.specs.Deck.{body_length, fresh}
 use Rattle.decks.specs.DeckLaws.{Stepped, stepped}
 use Rattle.lines.specs.Buffer.{Begins}
 use Rattle.stream.specs.declared.Arrival.{Arrival}
-use Rattle.stream.specs.Arrival.{Arrives}
+use Rattle.stream.specs.Arrival.{Arrives, bytes_of}
 use Rattle.deck.specs.declared.Run.{Run}
 use Rattle.deck.specs.declared.Going.{Going}
 use Rattle.deck.specs.declared.Progress.{Progress}
@@ -71,3 +77,18 @@ pub record Ran (r : Ending) : Type 0 where
   pub turns : Turns start arrivals last
   pub state : r.run.state ≡ last.state
   pub stopped : r.unwritten ≡ false → r.spent ≡ false → last.halt ≡ true
+
+unfoldable pub delivered : List Arrival → List ℕ
+delivered [] = []
+delivered (a ∷ xs) = bytes_of a ++ delivered xs
+
+unfoldable pub Unfailed : List Arrival → Type 0
+Unfailed [] = Unit {0}
+Unfailed (a ∷ xs) = (a.failed ≡ false) × Unfailed xs
+
+pub record Played (input input' output output' : Option (List ℕ)) (r : Ending) : Type 0 where
+  pub ran : Ran r
+  pub read : Consumes input input' (delivered ran.arrivals)
+  pub printed : r.unwritten ≡ false → Appends output output' ran.last.text
+  pub unread : (r.unread ≡ false) ↔ Unfailed ran.arrivals
+  pub spent : r.spent ≡ true → ran.last.halt ≡ false

@@ -7,12 +7,17 @@
 --   Stands run                         some arrivals lead from the start to where the run stands, and it goes on
 --   stands-start, stands_on            before the first record, and after a turn that does not stop it
 --   ran_stopped, ran_spent             a whole run, ended by its last turn or by the number of turns
---   delivered xs                       the bytes of the deck that arrived
---   Unfailed xs                        no read failed
+--   Keeps .. run                       where the run stands, beside what was read and written on the way
+--   keeps_start, keeps_on              before the first record, and after a turn that does not stop it
+--   played_stopped, played_spent       a whole run, beside what was read and written in it
 --   turns-deck                         a run that stopped is the definition's run of the bytes that arrived: the text that it
 --                                      printed, and the state it left
-use Rattle.std.specs.Prelude.{ℕ, zero, suc, ◌+◌, ◌≤◌, ◌<◌, Bool, cond, not, ◌||◌, ◌≡◌}
-use Rattle.std.proofs.Common.{arith, ◌∙◌, length-take-le}
+--   played-deck                        so is a run over bytes in memory: what it took of them, what it wrote, and its state
+use Rattle.stream.proofs.Bytes.{consumes_none, consumes_more, appends_none, appends_more}
+use Rattle.std.specs.Io.KnownBytes.{Consumes, Appends}
+use Rattle.std.specs.Prelude.{Option, Some, ℕ, zero, suc, ◌+◌, ◌≤◌, ◌<◌, Bool, cond, not, ◌||◌, ◌≡◌}
+use Rattle.std.proofs.Common.{arith, ◌∙◌, subst, length-take-le}
+use borrow.Author.Tests.{not-false}
 use Rattle.std.proofs.Math.Decide.{ℕ_discrete}
 use Rattle.std.proofs.Math.Bool.{true, false}
 use mathlib.Core.List.{List, [], ◌∷◌, ◌++◌, append_assoc, append-nil}
@@ -33,7 +38,8 @@ use Rattle.stream.specs.declared.Arrival.{Arrival}
 use Rattle.stream.specs.Arrival.{Arrives, bytes_of}
 use Rattle.deck.specs.declared.Run.{Run}
 use Rattle.deck.specs.declared.Progress.{Progress}
-use Rattle.deck.specs.Run.{told, past, Place, start, on, Turns, Goes, Turned, Ran}
+use Rattle.deck.specs.declared.Ending.{Ending}
+use Rattle.deck.specs.Run.{told, past, Place, start, on, Turns, Goes, Turned, Ran, delivered, Unfailed, Played}
 
 clash : {X : Type 0} {t : Bool} → t ≡ true → t ≡ false → X
 clash p q = let z : ◌≡◌ {A = ℕ} 0 1 = cc in absurd (omega arith)
@@ -138,13 +144,99 @@ module _ (run : Run) (out : List ℕ) (r : Progress) (after : List ℕ) (before 
 pub ran_spent : (run : Run) → Stands run → Ran (record { run = run; unread = false; unwritten = false; spent = true })
 ran_spent run s = record { arrivals = s.arrivals; last = s.place; turns = s.turns; state = s.state; stopped = λ _ e. clash refl e }
 
-unfoldable pub delivered : List Arrival → List ℕ
-delivered [] = []
-delivered (a ∷ xs) = bytes_of a ++ delivered xs
+-- What was read and written on the way to where the run stands: the arrivals' bytes, and the text printed.
+delivered_snoc : (xs : List Arrival) (a : Arrival) → delivered (xs ++ a ∷ []) ≡ delivered xs ++ bytes_of a
+unfolding delivered
+delivered_snoc [] a = append-nil (bytes_of a)
+delivered_snoc (x ∷ xs) a = ap (λ (t : List ℕ). bytes_of x ++ t) (delivered_snoc xs a) ∙ sym (append_assoc (bytes_of x) (delivered xs) (bytes_of a))
 
-unfoldable pub Unfailed : List Arrival → Type 0
-Unfailed [] = Unit {0}
-Unfailed (a ∷ xs) = (a.failed ≡ false) × Unfailed xs
+unfailed_snoc : (xs : List Arrival) (a : Arrival) → Unfailed xs → a.failed ≡ false → Unfailed (xs ++ a ∷ [])
+unfolding Unfailed
+unfailed_snoc [] a u f = (f, tt)
+unfailed_snoc (x ∷ xs) a (e, u) f = (e, unfailed_snoc xs a u f)
+
+unfailed-last : (xs : List Arrival) (a : Arrival) → Unfailed (xs ++ a ∷ []) → a.failed ≡ false
+unfolding Unfailed
+unfailed-last [] a (f, u) = f
+unfailed-last (x ∷ xs) a (e, u) = unfailed-last xs a u
+
+-- a run that goes on after an arrival had no failed read in it
+told_going : (d : Deck) (offset : ℕ) (a : Arrival) → (told d offset a).halt ≡ false → a.failed ≡ false
+unfolding told
+told_going d offset a g = go a.failed refl
+  where
+    go : (f : Bool) → a.failed ≡ f → a.failed ≡ false
+    go true e = clash (rw e refl) g
+    go false e = e
+
+pub record Keeps (input input' output output' : Option (List ℕ)) (run : Run) : Type 0 where
+  pub stands : Stands run
+  pub read : Consumes input input' (delivered stands.arrivals)
+  pub printed : Appends output output' stands.place.text
+  pub unfailed : Unfailed stands.arrivals
+
+pub keeps_start : (input output : Option (List ℕ)) (run : Run) → run.state ≡ fresh → run.offset ≡ 0 → Keeps input input output output run
+unfolding stands-start start delivered Unfailed
+keeps_start input output run s o = record { stands = stands-start run s o; read = consumes_none input; printed = appends_none output; unfailed = tt }
+
+module _ (run : Run) (out : List ℕ) (r : Progress) (after : List ℕ) (input input' input'' output output' output'' : Option (List ℕ))
+    (before : Keeps input input' output output' run) (t : Turned run out r after) (more : Consumes input' input'' (bytes_of r.arrival))
+    (wrote : r.written ≡ true → Appends output' output'' (take r.length after)) where
+  all-read : Consumes input input'' (delivered (before.stands.arrivals ++ r.arrival ∷ []))
+  all-read = rw (delivered_snoc before.stands.arrivals r.arrival) (consumes_more input input' input'' _ _ before.read more)
+
+  -- the line that was written is the arrival's text
+  line_text : take r.length after ≡ (told before.stands.place.state before.stands.place.offset r.arrival).text
+  line_text =
+      ap₂ take t.goes.line.next t.goes.line.text
+      ∙ take-append_seam (told run.state run.offset r.arrival).text (drop (length (told run.state run.offset r.arrival).text) out)
+      ∙ ap₂ (λ (d : Deck) (o : ℕ). (told d o r.arrival).text) before.stands.state before.stands.offset
+
+  all_printed : r.written ≡ true → Appends output output'' (on before.stands.place r.arrival).text
+  unfolding on
+  all_printed w = appends_more output output' output'' _ _ before.printed (subst (λ (s : List ℕ). Appends output' output'' s) line_text (wrote w))
+
+  pub keeps_on : (r.run.halt || not r.written) ≡ false → Keeps input input'' output output'' r.run
+  unfolding stands_on next
+  keeps_on h = record {
+    stands = stands_on run out r after before.stands t h;
+    read = all-read;
+    printed = all_printed (written r.run.halt r.written h);
+    unfailed =
+        unfailed_snoc before.stands.arrivals r.arrival before.unfailed
+        (told_going run.state run.offset r.arrival (sym t.goes.halt ∙ going r.run.halt (not r.written) h));
+  }
+    where
+      going : (a b : Bool) → (a || b) ≡ false → a ≡ false
+      going true b e = e
+      going false b e = refl
+
+      written : (a b : Bool) → (a || not b) ≡ false → b ≡ true
+      written false true e = refl
+      written false false e = clash refl e
+      written true b e = clash refl e
+
+  pub played_stopped : (r.run.halt || not r.written) ≡ true
+      → Played input input'' output output'' (record { run = r.run; unread = r.arrival.failed; unwritten = not r.written; spent = false })
+  unfolding ran_stopped next
+  played_stopped h = record {
+    ran = ran_stopped run out r after before.stands t h;
+    read = all-read;
+    printed = λ u. all_printed (not-false _ u);
+    unread = (unfailed_snoc before.stands.arrivals r.arrival before.unfailed, unfailed-last before.stands.arrivals r.arrival);
+    spent = λ e. clash e refl;
+  }
+
+pub played_spent : (input input' output output' : Option (List ℕ)) (run : Run) → Keeps input input' output output' run
+    → Played input input' output output' (record { run = run; unread = false; unwritten = false; spent = true })
+unfolding ran_spent
+played_spent input input' output output' run k = record {
+  ran = ran_spent run k.stands;
+  read = k.read;
+  printed = λ u. k.printed;
+  unread = (λ u. k.unfailed, λ u. refl);
+  spent = λ e. k.stands.going;
+}
 
 -- no arrival comes after the run has stopped
 turns-last : (w : Place) (xs : List Arrival) (v : Place) → Turns w xs v → w.halt ≡ true → (xs ≡ []) × (w ≡ v)
@@ -278,3 +370,9 @@ unfolding start
 turns-deck xs v t h u =
     rw (← deck-stepping (suc (length (delivered xs))) (delivered xs) (omega arith))
     (turns-stepping xs (suc (length (delivered xs))) start v t h refl u (omega arith))
+
+pub played-deck : (xs ys held now : List ℕ) (r : Ending) → Played (Some xs) (Some ys) (Some held) (Some now) r → r.unread ≡ false → r.unwritten ≡ false
+    → r.spent ≡ false → (bs : List ℕ) × (xs ≡ bs ++ ys) × (now ≡ held ++ (deck bs).text) × (r.run.state ≡ (deck bs).state)
+played-deck xs ys held now r p read written going =
+    let run = turns-deck p.ran.arrivals p.ran.last p.ran.turns (p.ran.stopped written going) (p.unread.0 read) in
+    (delivered p.ran.arrivals, p.read, p.printed written ∙ ap (λ (t : List ℕ). held ++ t) run.0, p.ran.state ∙ run.1)

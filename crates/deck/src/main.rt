@@ -1,10 +1,11 @@
 // The deck: records from standard input, a line for each answer to standard output.
 #![tactic(auto)]
 
-ghost use Rattle.std.specs.Prelude.{◌+◌, ◌^◌, ◌≤◌, ◌<◌, length, true, ◌≡◌};
+ghost use Rattle.std.specs.Prelude.{◌+◌, ◌^◌, ◌≤◌, ◌<◌, length, take, true, ◌≡◌};
+ghost use Rattle.std.specs.Io.KnownBytes.{Consumes, Appends};
 ghost use Rattle.decks.specs.State.{Fit};
-ghost use Rattle.stream.specs.Arrival.{Arrives};
-ghost use Rattle.deck.specs.Run.{Goes, Turned, Ran};
+ghost use Rattle.stream.specs.Arrival.{Arrives, bytes_of};
+ghost use Rattle.deck.specs.Run.{Goes, Turned, Played};
 
 use decks::Deck;
 use decks::records::{body_length, fresh};
@@ -92,7 +93,10 @@ fn turn<R: Read, W: Write>(input: &mut R, output: &mut W, run: Run, line: &mut [
     requires fit { Fit run.state }
     requires offset_bound { run.offset + 8 < 2 ^ 64 }
     requires in_bounds { 5707 ≤ length line.old }
-    ensures { Turned run line.old result line.new }
+    ensures turned { Turned run line.old result line.new }
+    ensures read { Consumes (R.remaining input.old) (R.remaining input.new) (bytes_of result.arrival) }
+    ensures printed { result.written ≡ true →
+        Appends (W.contents output.old) (W.contents output.new) (take result.length line.new) }
 {
     let arrival = next_record(input);
     let going = go(run, arrival, line);
@@ -109,7 +113,7 @@ fn turn<R: Read, W: Write>(input: &mut R, output: &mut W, run: Run, line: &mut [
 
 // A whole run. A record takes 8 bytes at most, so that with these turns no offset wraps.
 fn play<R: Read, W: Write>(input: &mut R, output: &mut W) -> Ending
-    ensures { Ran result }
+    ensures { Played (R.remaining input.old) (R.remaining input.new) (W.contents output.old) (W.contents output.new) result }
 {
     let mut line = [0u8; 8192];
     let state = fresh();

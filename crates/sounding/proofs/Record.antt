@@ -1,26 +1,21 @@
 -- The test of a record in its parts.
 --
 --   Lengths j                       how many entries the arrays of the record have
---   record_lengths                  every value of the type has as many
 --   pair_fails, pair_decided        the test of the pair, by its first part
---   pair-opened                     what a record whose pair is sound holds; points_asks: what the test of its kept pairs requires
+--   pair-opened                     what a record whose pair is sound holds
 --   points_kept                     the test of the kept pairs
 --   record-shaped                   the shape that the test asks of a record
 --   record_fails, record_decided    the whole test, by its parts
 use Prim.Native.Nat.{ℕ, ◌+◌, ◌*◌}
 use mathlib.Core.Bool.{Bool, true, false, not, ◌&&◌, and_assoc, and-eq-true_iff}
-use mathlib.Core.List.{List, [], ◌∷◌, map}
+use mathlib.Core.List.{[], ◌∷◌, map}
 use mathlib.Core.Path.{◌≡◌, refl, sym, ap, ◌∙◌}
 use lib.Dec.{leb, eqb}
 use lib.ListN.{length, get_or, take, drop}
-use mir.Val.{Val}
-use denote.Laws.{Is}
-use denote.Struct.Declared.{row}
 use borrow.Author.Tests.{eq-eqb}
 use Rattle.scope.specs.Pair.{degree_a, degree_b, tables}
 use Rattle.scope.specs.Point.{kept, needed, enough}
 use Rattle.scope.specs.Number.{over, no_lead}
-use Rattle.job.specs.contracts.Job.{the_type}
 use Rattle.job.specs.declared.Job.{Job}
 use Rattle.job.specs.Job.{pair_of, kept_points}
 use Rattle.job.specs.Sound.{zeros, same, good, sound_pair, sound_points, shaped, sound?}
@@ -48,17 +43,6 @@ module _ (j : Job) where
     pub points : length j.points ≡ 513
     pub values : length j.values ≡ 513
 
-  -- what the type says of every value
-  pub record_lengths : (vs : List Val) → Is (row the_type) j vs → Lengths
-  record_lengths vs h =
-      let arrays = h.1.1.1.1.1.1.1.1 in
-      record {
-        a = arrays.0.1.0.1;
-        b = arrays.1.0.1.0.1;
-        points = arrays.1.1.0.1.0.1;
-        values = arrays.1.1.1.0.1.0.1;
-      }
-
   pair_parts : sound_pair j ≡ (sound_numbers j.p j.m j.n && sound_tables j.p j.m j.da j.n j.db j.a j.b)
   unfolding sound_pair sound_numbers sound_tables sound_table degree_a degree_b pair_of tables
   pair_parts =
@@ -76,7 +60,7 @@ module _ (j : Job) where
       → r ≡ sound_pair j
   pair_decided h e = e ∙ sym (pair_parts ∙ ap (λ (b : Bool). b && sound_tables j.p j.m j.da j.n j.db j.a j.b) h)
 
-  pair-opened : Lengths → sound_pair j ≡ true → Opened j.p j.m j.da j.n j.db j.a j.b
+  pub pair-opened : Lengths → sound_pair j ≡ true → Opened j.p j.m j.da j.n j.db j.a j.b
   unfolding sound_tables
   pair-opened l h = record {
     modulus = range.modulus;
@@ -92,10 +76,6 @@ module _ (j : Job) where
 
       part : (k : ℕ) → get_or (tables_tests j.p j.m j.da j.n j.db j.a j.b) k true ≡ true
       part = conj-each (tables_tests j.p j.m j.da j.n j.db j.a j.b) parts.1
-
-  pub points_asks : Lengths → sound_pair j ≡ true
-      → Opened j.p j.m j.da j.n j.db j.a j.b × ((length j.points ≡ 513) × (length j.values ≡ 513))
-  points_asks l h = (pair-opened l h, (l.points, l.values))
 
   pub points_kept : sound_kept (tables j.p j.m 16 j.n 16 j.a j.b) j.points j.values j.count ≡ sound_points j
   unfolding sound_points sound_kept kept_pairs kept_points pair_of tables

@@ -1,9 +1,10 @@
-// A deck's records from a reader of bytes, and lines to a writer. What the system's own streams read and write no contract
-// can say; what can be said is what a record's arrival holds, and why it ended.
+// A deck's records from a reader of bytes, and lines to a writer: what a record's arrival holds is what the reader gave, and
+// why it ended is told. Of the system's own streams, whose bytes nothing knows, that says no more than how many there are.
 #![tactic(auto)]
 
-ghost use Rattle.std.specs.Prelude.{◌≤◌, length};
-ghost use Rattle.stream.specs.Arrival.{Reads, Fills, Arrives};
+ghost use Rattle.std.specs.Prelude.{◌≡◌, true, ◌≤◌, ◌<◌, length, take};
+ghost use Rattle.std.specs.Io.KnownBytes.{Consumes, Appends, IsAtEnd};
+ghost use Rattle.stream.specs.Arrival.{Reads, Fills, Arrives, bytes_of};
 
 use decks::records::body_length;
 use std::io::{Read, Write};
@@ -33,13 +34,17 @@ pub fn complain<W: Write>(errors: &mut W, message: &[u8]) {
 }
 
 // A line: whether it was written.
-pub fn print<W: Write>(output: &mut W, line: &[u8]) -> bool {
+pub fn print<W: Write>(output: &mut W, line: &[u8]) -> bool
+    ensures { result ≡ true → Appends (W.contents output.old) (W.contents output.new) line.now }
+{
     output.write_all(line).is_ok()
 }
 
 // One read. It brings nothing at the end of input, and nothing where it fails.
 fn read_some<R: Read>(input: &mut R, part: &mut [u8]) -> Piece
-    ensures { Reads (length part.old) result }
+    ensures reads { Reads (length part.old) result }
+    ensures bytes { Consumes (R.remaining input.old) (R.remaining input.new) (take result.count part.new) }
+    ensures end { result.ended ≡ true → 0 < length part.old → IsAtEnd (R.remaining input.new) }
 {
     match input.read(part) {
         Ok(count) => Piece {
@@ -58,7 +63,9 @@ fn read_some<R: Read>(input: &mut R, part: &mut [u8]) -> Piece
 // Reads until `need` bytes came, the input ends or a read fails.
 fn fill<R: Read>(input: &mut R, body: &mut [u8], need: usize) -> Piece
     requires { need ≤ length body.old }
-    ensures { Fills need result }
+    ensures fills { Fills need result }
+    ensures bytes { Consumes (R.remaining input.old) (R.remaining input.new) (take result.count body.new) }
+    ensures end { result.ended ≡ true → IsAtEnd (R.remaining input.new) }
 {
     let mut count = 0;
     while count < need {
@@ -81,7 +88,9 @@ fn fill<R: Read>(input: &mut R, body: &mut [u8], need: usize) -> Piece
 
 // The next record: its kind, and as much of its body as arrives.
 pub fn next_record<R: Read>(input: &mut R) -> Arrival
-    ensures { Arrives result }
+    ensures arrives { Arrives result }
+    ensures bytes { Consumes (R.remaining input.old) (R.remaining input.new) (bytes_of result) }
+    ensures end { result.ended ≡ true → IsAtEnd (R.remaining input.new) }
 {
     let mut first = [0u8; 1];
     let mut body = [0u8; 7];

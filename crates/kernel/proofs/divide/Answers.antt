@@ -7,16 +7,7 @@ pub returns-then-number-ne0 : goal.returns-then-number-ne0
 returns-then-number-ne0 c = division_refused _ _ _ _ _ c.division_number-number.ensures c.if-number-ne0.true refl
 
 pub divide-count-requires : goal.divide-count-requires
-divide-count-requires c =
-    let given = division_given _ _ _ _ c.division_number-number.ensures c.if-number-ne0.false in
-    record {
-      prime = given.0;
-      ended = given.1.0;
-      row_len_bound = given.1.1.0;
-      b_len_bound = given.1.1.1.0;
-      below = given.1.1.1.1.0;
-      below_2 = given.1.1.1.1.1;
-    }
+divide-count-requires c = assumption (division_given _ _ _ _ c.division_number-number.ensures c.if-number-ne0.false)
 
 pub returns : goal.returns
 returns c = division_done _ _ _ _ _ _ c.division_number-number.ensures c.if-number-ne0.false c.divide-count.ensures.value c.divide-count.ensures.row_after

@@ -6,9 +6,7 @@ pub returns-then-number-ne0 : goal.returns-then-number-ne0
 returns-then-number-ne0 c = plain_refused _ _ _ _ c.plain_number-number.ensures c.if-number-ne0.true
 
 pub plain-requires : goal.plain-requires
-plain-requires c =
-    let given = plain_given _ _ _ _ c.plain_number-number.ensures c.if-number-ne0.false in
-    record { le_p = given.0; a_nonzero = given.1.0; b_bound = given.1.1 }
+plain-requires c = assumption (plain_given _ _ _ _ c.plain_number-number.ensures c.if-number-ne0.false)
 
 pub returns : goal.returns
 returns c = plain_done _ _ _ _ _ c.plain_number-number.ensures c.if-number-ne0.false c.plain.ensures

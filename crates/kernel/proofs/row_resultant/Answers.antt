@@ -6,9 +6,7 @@ pub returns-then-number-ne0 : goal.returns-then-number-ne0
 returns-then-number-ne0 c = row_refused _ _ _ _ c.row_number-number.ensures c.if-number-ne0.true
 
 pub resultant-found-requires : goal.resultant-found-requires
-resultant-found-requires c =
-    let given = row_given _ _ _ _ c.row_number-number.ensures c.if-number-ne0.false in
-    record { le_p = given.0; prime = given.1.0; row = given.1.1.0; row_2 = given.1.1.1 }
+resultant-found-requires c = assumption (row_given _ _ _ _ c.row_number-number.ensures c.if-number-ne0.false)
 
 pub returns : goal.returns
 returns c = row_done _ _ _ _ _ _ c.row_number-number.ensures c.if-number-ne0.false c.resultant-found.ensures.value_value c.resultant-found.ensures.steps_value

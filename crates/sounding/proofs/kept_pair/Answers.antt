@@ -15,17 +15,13 @@ pub returns-then-is_among : goal.returns-then-is_among
 returns-then-is_among c = at_bad _ _ _ _ (λ h. false≢true (sym h.1 ∙ sym c.is_among.ensures ∙ c.if-is_among.true))
 
 pub usable_at-requires : goal.usable_at-requires
-usable_at-requires c =
-    let asks = usable_asks c.requires.opened in
-    record { p_nonzero = asks.0; table = asks.1.0; table_2 = asks.1.1 }
+usable_at-requires c = assumption (usable_asks c.requires.opened)
 
 pub returns-then-not-usable_at : goal.returns-then-not-usable_at
 returns-then-not-usable_at c = at_bad _ _ _ _ (λ h. false≢true (sym (c.if-not-usable_at.true) ∙ c.usable_at.ensures ∙ h.2))
 
 pub kept_at-requires : goal.kept_at-requires
-kept_at-requires c =
-    let asks = kept_asks c.requires.opened in
-    record { le_p = asks.0; prime = asks.1.0; table = asks.1.1.0; table_2 = asks.1.1.1 }
+kept_at-requires c = assumption (kept_asks c.requires.opened)
 
 pub returns : goal.returns
 unfolding tables

@@ -5,17 +5,11 @@ use Rattle.sounding.proofs.Opened.{needed_asks, needed_low}
 use Rattle.sounding.proofs.Kept.{kept_fails, kept_decided, count_many, count_few}
 use Rattle.sounding.proofs.sound_kept.Goals as goal
 
-pub needed-requires-clause-m_bound : goal.needed-requires-clause-m_bound
-needed-requires-clause-m_bound c = let low = needed_asks c.requires.opened in omega arith
-
-pub needed-requires-clause-da_bound : goal.needed-requires-clause-da_bound
-needed-requires-clause-da_bound c = let low = needed_asks c.requires.opened in omega arith
-
-pub needed-requires-clause-n_bound : goal.needed-requires-clause-n_bound
-needed-requires-clause-n_bound c = let low = needed_asks c.requires.opened in omega arith
-
-pub needed-requires-clause-db_bound : goal.needed-requires-clause-db_bound
-needed-requires-clause-db_bound c = let low = needed_asks c.requires.opened in omega arith
+-- by what is known and not by its parts, so that another call is refused where the numbers are compared
+pub needed-requires : goal.needed-requires
+needed-requires c =
+    let low = needed_asks c.requires.opened in
+    record { m_bound = omega arith; da_bound = omega arith; n_bound = omega arith; db_bound = omega arith }
 
 pub returns-then-needed-count : goal.returns-then-needed-count
 returns-then-needed-count c =
@@ -28,17 +22,11 @@ returns-then-not-zeros_from c = kept_fails _ _ _ _ 1 (sym c.zeros_from.ensures â
 pub returns-then-not-zeros_from-2 : goal.returns-then-not-zeros_from-2
 returns-then-not-zeros_from-2 c = kept_fails _ _ _ _ 2 (sym c.zeros_from-2.ensures âˆ™ c.if-not-zeros_from-2.true)
 
-pub kept_pairs-requires-clause-count_in_bounds : goal.kept_pairs-requires-clause-count_in_bounds
-kept_pairs-requires-clause-count_in_bounds c =
+pub kept_pairs-requires : goal.kept_pairs-requires
+kept_pairs-requires c =
     let low = needed_low c.requires.opened in
     let wanted = c.needed.ensures in
-    omega arith
-
-pub kept_pairs-requires-clause-count_in_bounds_2 : goal.kept_pairs-requires-clause-count_in_bounds_2
-kept_pairs-requires-clause-count_in_bounds_2 c =
-    let low = needed_low c.requires.opened in
-    let wanted = c.needed.ensures in
-    omega arith
+    record { opened = c.requires.opened; count_in_bounds = omega arith; count_in_bounds_2 = omega arith }
 
 pub returns : goal.returns
 returns c =

@@ -1,7 +1,7 @@
 -- `sounding::sound_pair`: the tables only where the numbers allow an index to be made from them.
 use mathlib.Core.Path.{sym, ◌∙◌}
 use Rattle.sounding.proofs.Numbers.{numbers}
-use Rattle.sounding.proofs.Record.{record_lengths, pair_fails, pair_decided}
+use Rattle.sounding.proofs.Record.{pair_fails, pair_decided}
 use Rattle.sounding.proofs.sound_pair.Goals as goal
 
 pub returns-then-not-sound_numbers : goal.returns-then-not-sound_numbers
@@ -10,14 +10,6 @@ returns-then-not-sound_numbers c = pair_fails _ (sym c.sound_numbers.ensures ∙
 pub sound_tables-requires-clause-numbers : goal.sound_tables-requires-clause-numbers
 sound_tables-requires-clause-numbers c =
     numbers _ _ _ (sym c.sound_numbers.ensures ∙ c.if-not-sound_numbers.false)
-
-pub sound_tables-requires-clause-ta_len : goal.sound_tables-requires-clause-ta_len
-sound_tables-requires-clause-ta_len c =
-    (record_lengths c.args.j _ c.well_formed.0).a
-
-pub sound_tables-requires-clause-tb_len : goal.sound_tables-requires-clause-tb_len
-sound_tables-requires-clause-tb_len c =
-    (record_lengths c.args.j _ c.well_formed.0).b
 
 pub returns : goal.returns
 returns c =

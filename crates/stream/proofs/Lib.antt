@@ -1,0 +1,2 @@
+-- The bytes that reads bring and writes take.
+pub mod Bytes
