@@ -1,17 +1,17 @@
--- `field::inverse`: each turn goes on to the next pair of remainders; a prime p leaves no remainder 0 before 1.
+-- `field::Modulus::inverse`: each turn goes on to the next pair of remainders; a prime p leaves no remainder 0 before 1.
 use Prim.Native.Nat.{◌+◌, ◌*◌, ◌-◌, ◌/◌}
 use native.Mathlib.Nat.{div-mul-le_self}
 use native.Mathlib.Omega.{arith}
 use mathlib.Core.Bool.{not}
 use Rattle.field.proofs.Euclid.{Chain, chain_first, chain_bounds, chain_next, chain-plus, chain-minus}
-use Rattle.field.proofs.inverse.Goals as goal
+use Rattle.field.proofs.Modulus.inverse.Goals as goal
 
 -- the pair after one turn
-next : (c : goal.In-loop-r1) → Chain c.args.p c.args.a (not c.loop-r1.minus) c.loop-r1.r1 (c.loop-r1.r0 - c.loop-r1.r0 / c.loop-r1.r1 * c.loop-r1.r1) c.loop-r1.t1 (c.loop-r1.r0 / c.loop-r1.r1 * c.loop-r1.t1 + c.loop-r1.t0)
-next c = chain_next _ _ c.loop-r1.invariant c.requires.prime (omega arith)
+next : (c : goal.In-loop-r1) → Chain c.args.self.value c.args.a (not c.loop-r1.minus) c.loop-r1.r1 (c.loop-r1.r0 - c.loop-r1.r0 / c.loop-r1.r1 * c.loop-r1.r1) c.loop-r1.t1 (c.loop-r1.r0 / c.loop-r1.r1 * c.loop-r1.t1 + c.loop-r1.t0)
+next c = chain_next _ _ c.loop-r1.invariant c.args.self.prime (omega arith)
 
 pub loop-r1-init : goal.loop-r1-init
-loop-r1-init c = chain_first c.args.p c.args.a (omega arith) (omega arith)
+loop-r1-init c = chain_first c.args.self.value c.args.a (omega arith) (omega arith)
 
 pub overflow_sub-r2 : goal.overflow_sub-r2
 overflow_sub-r2 c = div-mul-le_self c.loop-r1.r0 c.loop-r1.r1
