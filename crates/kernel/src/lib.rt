@@ -32,57 +32,58 @@ pub struct DivisionAnswer {
 }
 
 // The resultant of two rows, by the monic remainder sequence.
+#[tactic(auto, using(crate::specs::RowLaws::row_laws))]
 pub fn row_resultant(p: u32, a: &[u32], b: &[u32]) -> RowAnswer
     ensures { RowResult p a.now b.now result }
 {
-    let number = checks::row_number(p, a, b);
-    if number != 0 {
-        return RowAnswer {
-            number: number,
+    match checks::row(p, a, b) {
+        Ok(modulus) => {
+            let found = rows::resultant(modulus, a, b);
+            RowAnswer {
+                number: 0,
+                value: found.value,
+                steps: found.steps,
+            }
+        }
+        Err(refusal) => RowAnswer {
+            number: refusal.number(),
             value: 0,
             steps: 0,
-        };
-    }
-    let found = rows::resultant(p, a, b);
-    RowAnswer {
-        number: 0,
-        value: found.value,
-        steps: found.steps,
+        },
     }
 }
 
 // The same resultant for m + n <= 6, by expansion along rows.
+#[tactic(auto, using(crate::specs::RowLaws::row_laws))]
 pub fn plain_determinant(p: u32, a: &[u32], b: &[u32]) -> PlainAnswer
     ensures { PlainResult p a.now b.now result }
 {
-    let number = checks::plain_number(p, a, b);
-    if number != 0 {
-        return PlainAnswer {
-            number: number,
+    match checks::plain(p, a, b) {
+        Ok(_) => PlainAnswer {
+            number: 0,
+            value: plain::plain(p, a, b),
+        },
+        Err(refusal) => PlainAnswer {
+            number: refusal.number(),
             value: 0,
-        };
-    }
-    PlainAnswer {
-        number: 0,
-        value: plain::plain(p, a, b),
+        },
     }
 }
 
 // Division in the work row: remainder and quotient take the dividend's place.
+#[tactic(auto, using(crate::specs::RowLaws::row_laws))]
 pub fn divide(p: u32, row: &mut [u32], b: &[u32]) -> DivisionAnswer
     ensures { DivisionResult p row.old b.now result row.new }
 {
-    let number = checks::division_number(p, &row[..], b);
-    if number != 0 {
-        return DivisionAnswer {
-            number: number,
+    match checks::division(p, row, b) {
+        Ok(modulus) => DivisionAnswer {
+            number: 0,
+            count: rows::divide(modulus, row, b),
+        },
+        Err(refusal) => DivisionAnswer {
+            number: refusal.number(),
             count: 0,
-        };
-    }
-    let count = rows::divide(p, row, b);
-    DivisionAnswer {
-        number: 0,
-        count: count,
+        },
     }
 }
 
