@@ -1,12 +1,12 @@
 // Arithmetic on lent slices: values of polynomials, a pair of tables at a point, and Newton's rule.
 #![tactic(auto)]
 
-ghost use Rattle.std.specs.Prelude.{◌≡◌, ℕ, leb, cond, not, ◌++◌, suc, ◌+◌, ◌*◌, ◌-◌, ◌<◌, ◌≤◌, eqb, length, get_or, replicate, Option, Some, None};
+ghost use Rattle.std.specs.Prelude.{◌≡◌, ℕ, cond, not, ◌++◌, suc, ◌+◌, ◌*◌, ◌-◌, ◌<◌, ◌≤◌, eqb, length, get_or, replicate, Option, Some, None};
 ghost use Rattle.residue.specs.Residue.{residues, res, val};
 ghost use Rattle.residue.specs.Inverse.{inv};
 ghost use Rattle.polynomial.specs.Interpolation.{newton};
 ghost use Rattle.scope.specs.Pair.{term, tables, some, occurs, largest};
-ghost use Rattle.scope.specs.Point.{tabulate, row_at, usable, usables};
+ghost use Rattle.scope.specs.Point.{tabulate, row_at, usable};
 ghost use Rattle.scope.specs.Recovery.{Different};
 ghost use Rattle.points.specs.Table.{IsTable, IsTable-prop};
 ghost use Rattle.points.specs.Step.{value_of, weight_of, plus_multiple, times_linear};
@@ -102,6 +102,10 @@ pub struct Pair<'a> {
 }
 
 impl Pair<'_> {
+    ghost use Rattle.std.specs.Prelude.{leb};
+    ghost use Rattle.scope.specs.Point.{usables, kept};
+    ghost use Rattle.points.specs.Lent.{pair_at};
+
     // How many points are needed: D + 1
     pub fn needed(self) -> usize
         ensures { result ≡ self.entry.b.m * self.entry.a.d + self.entry.a.m * self.entry.b.d + 1 }
@@ -111,14 +115,27 @@ impl Pair<'_> {
 
     // Whether both leading rows are nonzero at y
     pub fn usable(self, y: u32) -> bool
-        ensures { result ≡ usable (tables self.entry.p.value self.entry.a.m 16 self.entry.b.m 16 self.entry.a.entries.now self.entry.b.entries.now) y }
+        ensures { result ≡ usable (pair_at self.entry) y }
     {
         usable_at(self.p.value, self.a, self.b, y)
     }
 
+    // The value kept at y: the determinant of the two polynomials there, at their declared degrees
+    pub fn kept(self, y: u32) -> u32
+        ensures { result ≡ kept (pair_at self.entry) y }
+    {
+        let mut u = [0u32; 17];
+        let mut w = [0u32; 17];
+        let u = &mut u[..self.a.m + 1];
+        let w = &mut w[..self.b.m + 1];
+        self.a.row_at(self.p.value, y, u);
+        self.b.row_at(self.p.value, y, w);
+        rows::determinant_in(self.p, u, w)
+    }
+
     // Whether at least `wanted` points below p are usable; it stops as soon as so many are found
     pub fn has_usable(self, wanted: usize) -> bool
-        ensures { result ≡ leb wanted (length (usables (tables self.entry.p.value self.entry.a.m 16 self.entry.b.m 16 self.entry.a.entries.now self.entry.b.entries.now) self.entry.p.value)) }
+        ensures { result ≡ leb wanted (length (usables (pair_at self.entry) self.entry.p.value)) }
     {
         let mut found: usize = 0;
         for y in 0..self.p.value {
