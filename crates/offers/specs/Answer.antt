@@ -1,7 +1,6 @@
 -- The number that an offer answers.
 --
 --   answer_of r     0 where the point is kept, 1 where it is surplus, otherwise the number of the refusal
---   answer_low      a number of a point is at most 17
 use Rattle.std.specs.Prelude.{ℕ, Result, Ok, Err}
 use Rattle.checks.specs.declared.Refusal.{Refusal}
 use Rattle.checks.specs.Outcome.{number_of}

@@ -4,7 +4,6 @@
 --   IsPairOf j P      P is the modulus and the two tables of j, with its degrees
 --   lent_pair         so it holds the pair of j
 use Rattle.std.specs.Prelude.{◌≤◌, ◌≡◌, length}
-use Rattle.std.proofs.Common.{ap}
 use Rattle.residue.specs.Prime.{Modulus}
 use Rattle.scope.specs.Pair.{tables, degree_a, degree_b}
 use Rattle.points.specs.declared.Pair.{Pair}

@@ -108,12 +108,7 @@ impl SoundJob {
         ensures { out.new ≡ tabulate self.now.job.count (λ k. val self.now.job.p (Calls.interpolant self.now.job k)) }
     {
         let count = self.job.count as usize;
-        points::interpolate(
-            self.pair().p,
-            self.points(),
-            &self.job.values[..count],
-            out,
-        );
+        points::interpolate(self.pair().p, self.points(), &self.job.values[..count], out);
     }
 
     // Whether that polynomial takes the value at a that would be kept there
