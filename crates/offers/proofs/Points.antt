@@ -1,14 +1,12 @@
 -- A point looked for among those kept, and the number that it is answered.
 --
---   among_any              the search finds a point exactly where it is among the list
 --   searched, tested       so what the search of a lent slice, and the test of a lent pair, say
 --   number_large           the number of a point that is not below p, number_repeated: of one that is kept
 --   number_unusable        of one that is not usable
 --   number_good            of any other
-use Rattle.std.proofs.Common.{ℕ, ◌<◌, ◌≤◌, Bool, true, false, ◌||◌, List, [], ◌∷◌, ◌≡◌, refl, sym, ap, ap₂, ◌∙◌, eqb}
-use Rattle.std.proofs.Math.Decide.{ℕ_discrete}
+use Rattle.std.proofs.Common.{ℕ, ◌<◌, ◌≤◌, Bool, true, false, List, ◌≡◌, refl, sym, ap, ◌∙◌, eqb}
 use Rattle.std.specs.List.{list_any}
-use Rattle.std.proofs.lemmas.Bool.{eq-eqb, ne_eqb, le-leb, lt-leb}
+use Rattle.std.proofs.lemmas.Bool.{le-leb, lt-leb}
 use Rattle.scope.specs.Point.{usable}
 use Rattle.scope.specs.Number.{◌gives◌otherwise◌, among, point_number}
 use Rattle.points.specs.declared.Pair.{Pair}
@@ -16,20 +14,10 @@ use Rattle.points.specs.Lent.{pair_at}
 use Rattle.job.specs.declared.Job.{Job}
 use Rattle.job.specs.Job.{pair_of, kept_points}
 use Rattle.offers.specs.Lent.{IsPairOf, lent_pair}
-
-eqb_swapped : (x a : ℕ) → eqb x a ≡ eqb a x
-eqb_swapped x a = elim (ℕ_discrete x a) [
-  | yes e ↦ rw (eq-eqb x a e, eq-eqb a x (sym e)) refl
-  | no d ↦ rw (ne_eqb x a d, ne_eqb a x (λ e. d (sym e))) refl
-]
-
-pub among_any : (a : ℕ) (s : List ℕ) → list_any (λ y. eqb y a) s ≡ among a s
-unfolding among
-among_any a [] = refl
-among_any a (x ∷ s) = ap₂ (λ (t u : Bool). t || u) (eqb_swapped x a) (among_any a s)
+use Rattle.offers.specs.Among.{among_any}
 
 pub searched : (a : ℕ) {s points : List ℕ} {b t : Bool} → b ≡ list_any (λ y. eqb y a) s → s ≡ points → b ≡ t → among a points ≡ t
-searched a {s} e same h = sym (e ∙ among_any a s ∙ ap (among a) same) ∙ h
+searched a {s} e same h = sym (e ∙ sym (among_any a s) ∙ ap (among a) same) ∙ h
 
 pub tested : (a : ℕ) {j : Job} {P : Pair} {b t : Bool} → IsPairOf j P → b ≡ usable (pair_at P) a → b ≡ t → usable (pair_of j) a ≡ t
 tested a h e at = sym (e ∙ ap (λ Q. usable Q a) (lent_pair h)) ∙ at

@@ -4,11 +4,9 @@
 --   sound_as             an offer leaves a sound job
 --   opened               what lending its polynomials asks
 --   table_of_a, table_of_b     the tables hold no power of y above the true degrees
---   needed_degrees       D + 1 from the true degrees in the record
---   lent_needed          the same, from the pair lent
 --   slot_free            while fewer points are kept than are needed, there is a slot for the next
-use Rattle.std.proofs.Common.{ℕ, ◌+◌, ◌*◌, ◌<◌, true, ◌≡◌, arith, sym, ap₂, ◌∙◌, subst}
-use Rattle.scope.specs.Pair.{bound, degree_a, degree_b}
+use Rattle.std.proofs.Common.{ℕ, ◌<◌, true, ◌≡◌, arith, sym, subst}
+use Rattle.scope.specs.Pair.{degree_a, degree_b}
 use Rattle.scope.specs.Point.{needed}
 use Rattle.points.specs.Table.{IsTable, table_of}
 use Rattle.job.specs.declared.Job.{Job}
@@ -18,8 +16,7 @@ use Rattle.job.specs.Sound.{sound?}
 use Rattle.job.specs.Standing.{Standing}
 use Rattle.job.specs.SoundLaws.{standing_test}
 use Rattle.job.specs.StandingLaws.{needed_fits, offered_standing}
-use Rattle.points.specs.declared.Pair.{Pair}
-use Rattle.offers.specs.Lent.{IsOpened, IsPairOf}
+use Rattle.offers.specs.Lent.{IsOpened}
 
 pub standing : {j : Job} → sound? j ≡ true → Standing j
 standing {j} h = (standing_test j).0 h
@@ -39,15 +36,8 @@ module _ (j : Job) (s : Standing j) where
     real_b = s.real_b;
   }
 
-  pub needed_degrees : j.n * j.da + j.m * j.db + 1 ≡ needed (pair_of j)
-  unfolding needed bound pair_of
-  needed_degrees = ap₂ (λ (x y : ℕ). j.n * x + j.m * y + 1) s.real_a s.real_b
-
   pub slot_free : j.count < needed (pair_of j) → j.count < 513
   slot_free few = omega (arith, needed_fits j s)
-
-pub lent_needed : {j : Job} {P : Pair} → IsPairOf j P → Standing j → P.b.m * P.a.d + P.a.m * P.b.d + 1 ≡ needed (pair_of j)
-lent_needed {j} h s = (λ i. h.n i * h.da i + h.m i * h.db i + 1) ∙ needed_degrees j s
 
 module _ (j : Job) (o : IsOpened j) where
   pub table_of_a : IsTable j.m j.da j.a

@@ -3,9 +3,12 @@
 --   IsOpened j        what lending them asks of a record: a modulus of the kernel, and tables with the degrees that it says
 --   IsPairOf j P      P is the modulus and the two tables of j, with its degrees
 --   lent_pair         so it holds the pair of j
-use Rattle.std.specs.Prelude.{◌≤◌, ◌≡◌, length}
+--   lent_needed       and as many points are needed as its degrees say
+use Rattle.std.specs.Prelude.{◌+◌, ◌*◌, ◌≤◌, ◌≡◌, length}
+use Rattle.std.proofs.Common.{◌∙◌}
 use Rattle.residue.specs.Prime.{Modulus}
-use Rattle.scope.specs.Pair.{tables, degree_a, degree_b}
+use Rattle.scope.specs.Pair.{tables, bound, degree_a, degree_b}
+use Rattle.scope.specs.Point.{needed}
 use Rattle.points.specs.declared.Pair.{Pair}
 use Rattle.points.specs.Lent.{pair_at}
 use Rattle.job.specs.declared.Job.{Job}
@@ -32,3 +35,7 @@ pub record IsPairOf (j : Job) (P : Pair) : Type 0 where
 pub lent_pair : {j : Job} {P : Pair} → IsPairOf j P → pair_at P ≡ pair_of j
 unfolding pair_of tables
 lent_pair {j} {P} h = λ i. tables (h.p i) (h.m i) 16 (h.n i) 16 (h.a i) (h.b i)
+
+pub lent_needed : {j : Job} {P : Pair} → IsPairOf j P → IsOpened j → P.b.m * P.a.d + P.a.m * P.b.d + 1 ≡ needed (pair_of j)
+unfolding needed bound pair_of
+lent_needed {j} h o = λ i. h.n i * (h.da ∙ o.real_a) i + h.m i * (h.db ∙ o.real_b) i + 1

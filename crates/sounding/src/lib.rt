@@ -1,15 +1,14 @@
 // The test that every offer, lot and read makes once per call: whether a record is sound.
 #![tactic(auto)]
 
-ghost use Rattle.std.specs.Prelude.{◌≡◌, ◌&&◌, true, ◌≤◌, eqb, length, drop, IfOk};
-ghost use Rattle.scope.specs.Point.{kept, enough};
-ghost use Rattle.scope.specs.Number.{point_number};
+ghost use Rattle.std.specs.Prelude.{◌≡◌, true, ◌≤◌, length, drop, IfOk};
+ghost use Rattle.scope.specs.Point.{enough};
 ghost use Rattle.points.specs.Lent.{pair_at};
 ghost use Rattle.checks.specs.Outcome.{outcome};
 ghost use Rattle.job.specs.Job.{pair_of};
 ghost use Rattle.job.specs.Sound.{zeros, sound_pair, sound_points, sound?};
 ghost use Rattle.offers.specs.Lent.{IsOpened};
-ghost use Rattle.sounding.specs.Parts.{sound_numbers, sound_table, sound_tables, sound_number, kept_pairs};
+ghost use Rattle.sounding.specs.Parts.{sound_numbers, sound_table, sound_tables, kept_at, kept_pairs, sound_number};
 
 use checks::Refusal;
 use job::Job;
@@ -25,6 +24,7 @@ pub fn zeros_from(t: &[u32], k: usize) -> bool
 
 // Whether a table is one that an accepted opening lays out: entries below p, zeros outside its m + 1 rows, a leading
 // row that is not zero, and d the largest power of y that occurs
+#[tactic(auto, using(crate::proofs::Tables::front_lead), unfolding(crate::specs::Parts::sound_table, scope::specs::Pair::size))]
 fn sound_table(p: u32, t: &[u32], m: u32, d: u32) -> bool
     requires full { length t.now ≡ 289 }
     requires m_most { m ≤ 16 }
@@ -38,6 +38,7 @@ fn sound_table(p: u32, t: &[u32], m: u32, d: u32) -> bool
 }
 
 // Whether the modulus and the degrees in x are those of an accepted opening
+#[tactic(auto, unfolding(crate::specs::Parts::sound_numbers))]
 fn sound_numbers(p: u32, m: u32, n: u32) -> bool
     ensures { result ≡ sound_numbers p m n }
 {
@@ -45,23 +46,26 @@ fn sound_numbers(p: u32, m: u32, n: u32) -> bool
 }
 
 // Whether as many usable points exist as are needed
-fn has_enough(pair: Pair) -> bool
-    ensures { result ≡ enough (pair_at pair.entry) }
+#[tactic(auto, using(crate::proofs::Record::lent_enough))]
+fn has_enough(j: &Job) -> bool
+    requires { IsOpened j.now }
+    ensures { result ≡ enough (pair_of j.now) }
 {
+    let pair = offers::lend(j);
     pair.has_usable(pair.needed())
 }
 
 // Whether both tables are such tables, and as many usable points exist as they need
+#[tactic(auto, using(crate::proofs::Record::opening), unfolding(crate::specs::Parts::sound_tables))]
 fn sound_tables(j: &Job) -> bool
     requires { sound_numbers j.now.p j.now.m j.now.n ≡ true }
     ensures { result ≡ sound_tables j.now.p j.now.m j.now.da j.now.n j.now.db j.now.a j.now.b }
 {
-    sound_table(j.p, &j.a, j.m, j.da)
-        && sound_table(j.p, &j.b, j.n, j.db)
-        && has_enough(offers::lend(j))
+    sound_table(j.p, &j.a, j.m, j.da) && sound_table(j.p, &j.b, j.n, j.db) && has_enough(j)
 }
 
 // Whether modulus, degrees and coefficients are those of an accepted opening
+#[tactic(auto, using(crate::proofs::Record::pair_parts))]
 pub fn sound_pair(j: &Job) -> bool
     ensures { result ≡ sound_pair j.now }
 {
@@ -69,8 +73,9 @@ pub fn sound_pair(j: &Job) -> bool
 }
 
 // Whether a point would have been kept with this value after those before it: below p, new, usable, and the value its own
+#[tactic(auto, using(crate::proofs::Pairs::tests), unfolding(scope::specs::Pair::tables))]
 fn kept_pair(pair: Pair, before: &[u32], a: u32, value: u32) -> bool
-    ensures { result ≡ (eqb (point_number (pair_at pair.entry) before.now a) 0 && eqb value (kept (pair_at pair.entry) a)) }
+    ensures { result ≡ kept_at (pair_at pair.entry) before.now a value }
 {
     a < pair.p.value && !before.contains(&a) && pair.usable(a) && value == pair.kept(a)
 }
@@ -78,7 +83,7 @@ fn kept_pair(pair: Pair, before: &[u32], a: u32, value: u32) -> bool
 // Whether each of the pairs would have been kept
 fn kept_pairs(pair: Pair, points: &[u32], values: &[u32]) -> bool
     requires { length points.now ≡ length values.now }
-    ensures { result ≡ kept_pairs (pair_at pair.entry) points.now values.now (length points.now) }
+    ensures { result ≡ kept_pairs (pair_at pair.entry) points.now values.now }
 {
     for i in 0..points.len() {
         if !kept_pair(pair, &points[..i], points[i], values[i]) {
@@ -110,6 +115,7 @@ pub fn is_sound(j: &Job) -> bool
 }
 
 // The record as a sound job, where it is one
+#[tactic(auto, unfolding(crate::specs::Parts::sound_number))]
 pub fn sound(j: Job) -> Result<SoundJob, Refusal>
     ensures number { outcome result ≡ sound_number j }
     ensures ok { IfOk result (λ s. s.job ≡ j) }

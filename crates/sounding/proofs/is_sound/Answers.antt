@@ -1,16 +1,11 @@
--- `sounding::is_sound`: the kept pairs only where the pair is sound. Every record is shaped, by the lengths of its arrays.
-use borrow.Author.Rules.{rules}
-use mathlib.Core.Path.{sym, ◌∙◌}
-use Rattle.sounding.proofs.Record.{record-shaped, record_fails, record_decided}
+-- `sounding::is_sound`: every record is shaped, by the lengths of its arrays.
+use Rattle.std.proofs.Common.{arith, rules}
+use Rattle.std.proofs.lemmas.Grind.{common_steps}
+use Rattle.sounding.proofs.Record.{record_parts}
 use Rattle.sounding.proofs.is_sound.Goals as goal
 
-pub returns-then-not-sound_pair : goal.returns-then-not-sound_pair
-returns-then-not-sound_pair c = record_fails _ (sym c.sound_pair.ensures ∙ c.if-not-sound_pair.true)
+pub returns-then-sound_pair : goal.returns-then-sound_pair
+returns-then-sound_pair c = grind (arith, common_steps, record_parts c.args.j.now (search rules) (search rules) (search rules) (search rules))
 
-pub sound_points-requires : goal.sound_points-requires
-sound_points-requires c = sym c.sound_pair.ensures ∙ c.if-not-sound_pair.false
-
-pub returns : goal.returns
-returns c =
-    record_decided _ (record-shaped _ (record { a = search rules; b = search rules; points = search rules; values = search rules })) (sym c.sound_pair.ensures ∙ c.if-not-sound_pair.false)
-    c.sound_points.ensures
+pub returns-else-sound_pair : goal.returns-else-sound_pair
+returns-else-sound_pair c = grind (arith, common_steps, record_parts c.args.j.now (search rules) (search rules) (search rules) (search rules))
