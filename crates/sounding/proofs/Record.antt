@@ -94,10 +94,9 @@ module _ (j : Job) where
       let (a, b) = (and-eq-true_iff (sound_table j.p j.m j.da j.a) (sound_table j.p j.n j.db j.b)).0 both in
       tables_opened long_a long_b numbers a b
 
-  pub record_parts : length j.a ≡ 289 → length j.b ≡ 289 → length j.points ≡ 513 → length j.values ≡ 513 → sound? j ≡ (sound_pair j && sound_points j)
-  unfolding sound? shaped
-  record_parts a b points values =
-      rw (eq-eqb (length j.a) 289 a, eq-eqb (length j.b) 289 b, eq-eqb (length j.points) 513 points, eq-eqb (length j.values) 513 values) refl
+  pub record_parts : shaped j ≡ true → sound? j ≡ (sound_pair j && sound_points j)
+  unfolding sound?
+  record_parts shape = ap (λ (b : Bool). b && sound_pair j && sound_points j) shape
 
 pub ruleset opening = (low_m, low_n, pair_tables)
 

@@ -1,8 +1,7 @@
--- The rows of a table of 289 entries, up to and with the leading one.
+-- The rows of a table of degree 16 in y, up to and with the leading one.
 --
---   front_length    they have (m + 1) * 17 entries
 --   front_lead      they have the table's leading row
-use Rattle.std.proofs.Common.{ℕ, ◌+◌, ◌*◌, ◌≤◌, not, List, ◌≡◌, sym, ap, ◌∙◌, arith, eqb, length, get_or, take, length-take-le, get_or-take}
+use Rattle.std.proofs.Common.{ℕ, ◌+◌, ◌*◌, ◌≤◌, not, List, ◌≡◌, sym, ap, ◌∙◌, arith, eqb, get_or, take, get_or-take}
 use native.Mathlib.Decide.{dec_le}
 use mathlib.Core.Path.{fun_ext}
 use Rattle.scope.specs.Pair.{place, term, some}
@@ -10,9 +9,6 @@ use Rattle.scope.specs.Number.{no_lead}
 use Rattle.scope.specs.TableLaws.{term_inside, term_high}
 
 module _ (m : ℕ) (t : List ℕ) where
-  pub front_length : m ≤ 16 → length t ≡ 289 → length (take ((m + 1) * 17) t) ≡ (m + 1) * 17
-  front_length low long = length-take-le ((m + 1) * 17) t (omega arith)
-
   front-term : (j : ℕ) → term 16 (take ((m + 1) * 17) t) m j ≡ term 16 t m j
   unfolding place
   front-term j =

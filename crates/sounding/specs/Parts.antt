@@ -5,13 +5,11 @@
 --   sound_tables p m da n db s t    two such tables, with as many usable points as they need
 --   kept_at P before a value        the point a would have been kept after those before it, and with this value
 --   kept_pairs P points values      each of the points would have been kept after those before it, and with its value
---   sound_number j                  0 for a sound record, otherwise 16
-use Rattle.std.specs.Prelude.{ℕ, ◌+◌, ◌*◌, Bool, cond, not, ◌&&◌, List, [], map, eqb, drop}
+use Rattle.std.specs.Prelude.{ℕ, ◌+◌, ◌*◌, Bool, not, ◌&&◌, List, [], map, eqb, drop}
 use Rattle.scope.specs.Pair.{Pair, term, tables, occurs, largest}
 use Rattle.scope.specs.Point.{kept, enough}
 use Rattle.scope.specs.Number.{outside, composite, too_high, over, no_lead, point_number}
-use Rattle.job.specs.declared.Job.{Job}
-use Rattle.job.specs.Sound.{zeros, same, good, sound?}
+use Rattle.job.specs.Sound.{zeros, same, good}
 
 unfoldable pub sound_numbers : (p m n : ℕ) → Bool
 sound_numbers p m n = not (outside p) && not (composite p) && not (too_high m) && not (too_high n)
@@ -27,6 +25,3 @@ kept_at P before a value = eqb (point_number P before a) 0 && eqb value (kept P 
 
 unfoldable pub kept_pairs : Pair → List ℕ → List ℕ → Bool
 kept_pairs P points values = good P [] points && same values (map (kept P) points)
-
-unfoldable pub sound_number : Job → ℕ
-sound_number j = cond (sound? j) 0 16

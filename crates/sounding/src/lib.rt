@@ -1,14 +1,14 @@
 // The test that every offer, lot and read makes once per call: whether a record is sound.
 #![tactic(auto)]
 
-ghost use Rattle.std.specs.Prelude.{◌≡◌, true, ◌≤◌, length, drop, IfOk};
+ghost use Rattle.std.specs.Prelude.{◌≡◌, true, cond, ◌≤◌, length, drop, IfOk};
 ghost use Rattle.scope.specs.Point.{enough};
 ghost use Rattle.points.specs.Lent.{pair_at};
 ghost use Rattle.checks.specs.Outcome.{outcome};
 ghost use Rattle.job.specs.Job.{pair_of};
-ghost use Rattle.job.specs.Sound.{zeros, sound_pair, sound_points, sound?};
+ghost use Rattle.job.specs.Sound.{zeros, sound_pair, sound_points, shaped, sound?};
 ghost use Rattle.offers.specs.Lent.{IsOpened};
-ghost use Rattle.sounding.specs.Parts.{sound_numbers, sound_table, sound_tables, kept_at, kept_pairs, sound_number};
+ghost use Rattle.sounding.specs.Parts.{sound_numbers, sound_table, sound_tables, kept_at, kept_pairs};
 
 use checks::Refusal;
 use job::Job;
@@ -64,10 +64,11 @@ fn sound_tables(j: &Job) -> bool
     sound_table(j.p, &j.a, j.m, j.da) && sound_table(j.p, &j.b, j.n, j.db) && has_enough(j)
 }
 
-// Whether modulus, degrees and coefficients are those of an accepted opening
-#[tactic(auto, using(crate::proofs::Record::pair_parts))]
+// Whether modulus, degrees and coefficients are those of an accepted opening. The arrays of any record have their lengths.
+#[tactic(auto, using(crate::proofs::Record::pair_parts), unfolding(job::specs::Sound::shaped))]
 pub fn sound_pair(j: &Job) -> bool
-    ensures { result ≡ sound_pair j.now }
+    ensures answer { result ≡ sound_pair j.now }
+    ensures shape { shaped j.now ≡ true }
 {
     sound_numbers(j.p, j.m, j.n) && sound_tables(j)
 }
@@ -108,6 +109,7 @@ pub fn sound_points(j: &Job) -> bool
 }
 
 // Whether a record is sound; any record may be asked
+#[tactic(auto, using(crate::proofs::Record::record_parts))]
 pub fn is_sound(j: &Job) -> bool
     ensures { result ≡ sound? j.now }
 {
@@ -115,9 +117,8 @@ pub fn is_sound(j: &Job) -> bool
 }
 
 // The record as a sound job, where it is one
-#[tactic(auto, unfolding(crate::specs::Parts::sound_number))]
 pub fn sound(j: Job) -> Result<SoundJob, Refusal>
-    ensures number { outcome result ≡ sound_number j }
+    ensures number { outcome result ≡ cond (sound? j) 0 16 }
     ensures ok { IfOk result (λ s. s.job ≡ j) }
 {
     if !is_sound(&j) {
