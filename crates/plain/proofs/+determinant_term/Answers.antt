@@ -31,7 +31,7 @@ term-determinant-minor-requires t c =
 
 pub term-returns-then-j-eq0 : goal.term-returns-then-j-eq0
 term-returns-then-j-eq0 t c =
-    term_even _ (omega arith) _ _ _ _ _ c.requires.j_below c.without.ensures _ _ c.determinant-minor.ensures c.mul-product.ensures c.if-j-eq0.true
+    term_even _ (omega arith) _ _ _ _ _ c.requires.j_below c.without.ensures _ _ c.determinant-minor.ensures c.mul-product.ensures (omega arith)
 
 pub term-returns-else-j-eq0 : goal.term-returns-else-j-eq0
 term-returns-else-j-eq0 t c =
