@@ -2,6 +2,7 @@
 --
 --   limit               2^31, the bound that every modulus stays below
 --   Prime p             no d with 2 <= d and d*d <= p divides p (0 and 1 have this too: the range is asked apart)
+--   Prime-prop          there is one proof of it at most
 --   Modulus p           what the kernel asks of a modulus: in range, and prime
 --   prime? p            the test of all those d, as a function that computes
 --   prime_no_divisor    no d between 2 and p divides a prime p, however large d is
@@ -9,6 +10,7 @@
 --   prime?_all          prime? says true of every prime
 --   prime_dec           Prime p is decided
 use Rattle.std.specs.Prelude.{ℕ, zero, suc, ◌+◌, ◌*◌, ◌%◌, ◌/◌, ◌^◌, ◌≤◌, ◌<◌, ◌≡◌, refl, Bool, true, false, ◌⊎◌}
+use Rattle.std.specs.Coded.{Π_prop, →_prop}
 use Rattle.std.proofs.Math.Nat.{div-add-mod, mul-mod_left, lt_of_mul-lt-mul_left}
 use Rattle.std.proofs.Common.{mul-le-mul, mul-le-mul_right, le-mul_of_pos_right, le_refl, le_trans, eq-or-lt_of_le, arith, sym, ap, ◌∙◌, true≢false, inl, inr}
 use Rattle.std.proofs.Math.Decide.{dec_le, ℕ_discrete}
@@ -19,6 +21,10 @@ limit = 2 ^ 31
 
 unfoldable pub Prime : ℕ → Type 0
 Prime p = (d : ℕ) → 2 ≤ d → d * d ≤ p → p % d ≡ 0 → ⊥
+
+pub Prime-prop : (p : ℕ) → IsProp (Prime p)
+unfolding Prime
+Prime-prop p = Π_prop (λ d. →_prop (→_prop (→_prop (λ x y. absurd x))))
 
 pub record Modulus (p : ℕ) : Type 0 where
   pub least : 2 ≤ p
