@@ -99,6 +99,14 @@ pub fn mul(p: u32, a: u32, b: u32) -> u32
     ((a as u64) * (b as u64) % (p as u64)) as u32
 }
 
+// a * b + c modulo p, with one remainder, for any a, b and c
+pub fn mul_add(p: u32, a: u32, b: u32, c: u32) -> u32
+    requires { 0 < p }
+    ensures { result ≡ (a * b + c) % p }
+{
+    (((a as u64) * (b as u64) + (c as u64)) % (p as u64)) as u32
+}
+
 // c - q * b modulo p, with one remainder: c + (p - b) * q stays below 2^64
 pub fn mul_sub(p: u32, c: u32, q: u32, b: u32) -> u32
     requires c_lt_p { c < p }

@@ -1,6 +1,9 @@
 // The job: two polynomials, and the points kept so far with their values.
 #![tactic(auto)]
 
+ghost use Rattle.std.specs.Prelude.{◌≡◌};
+ghost use Rattle.job.specs.Job.{blank};
+
 // A record of whole numbers alone, so that every pattern of its bytes is a record: the calls check it.
 // The coefficient of x^i y^j of A stands at 17 i + j of `a`, and so for B.
 #[repr(C)]
@@ -16,6 +19,27 @@ pub struct Job {
     pub b: [u32; 289],
     pub points: [u32; 513],
     pub values: [u32; 513],
+}
+
+// The all-zero record
+#[tactic(auto, unfolding(crate::specs::Job::blank))]
+impl Default for Job {
+    ghost is_default = { λ j. j ≡ blank };
+
+    fn default() -> Job {
+        Job {
+            p: 0,
+            m: 0,
+            n: 0,
+            da: 0,
+            db: 0,
+            count: 0,
+            a: [0; 289],
+            b: [0; 289],
+            points: [0; 513],
+            values: [0; 513],
+        }
+    }
 }
 
 // What an opening, an offer or a lot answers: the number, and the job afterwards.

@@ -23,19 +23,19 @@ unfoldable pub spaced : List ℕ → List ℕ
 spaced [] = []
 spaced (n ∷ ns) = 32 ∷ (decimal n ++ spaced ns)
 
-unfoldable pub open_word : List ℕ
+abbrev pub open_word : List ℕ
 open_word = 111 ∷ 112 ∷ 101 ∷ 110 ∷ []
 
-unfoldable pub point_word : List ℕ
+abbrev pub point_word : List ℕ
 point_word = 112 ∷ 111 ∷ 105 ∷ 110 ∷ 116 ∷ []
 
-unfoldable pub read_word : List ℕ
+abbrev pub read_word : List ℕ
 read_word = 114 ∷ 101 ∷ 97 ∷ 100 ∷ []
 
-unfoldable pub deck_word : List ℕ
+abbrev pub deck_word : List ℕ
 deck_word = 100 ∷ 101 ∷ 99 ∷ 107 ∷ []
 
-unfoldable pub end_word : List ℕ
+abbrev pub end_word : List ℕ
 end_word = 101 ∷ 110 ∷ 100 ∷ []
 
 unfoldable pub line : List ℕ → List ℕ → List ℕ

@@ -12,11 +12,11 @@ use Rattle.std.proofs.Common.{append_assoc, append-nil, inl, inr, ⊎_elim, sym,
 use Rattle.std.proofs.Math.Decide.{dec_lt}
 use Rattle.lines.specs.Text.{digits, decimal, spaced}
 
-digits_last : (fuel n : ℕ) (found : List ℕ) → n < 10 → digits (suc fuel) n found ≡ (48 + n) ∷ found
+pub digits_last : (fuel n : ℕ) (found : List ℕ) → n < 10 → digits (suc fuel) n found ≡ (48 + n) ∷ found
 unfolding digits
 digits_last fuel n found h = rw (lt-ltb n 10 h) refl
 
-digits_more : (fuel n : ℕ) (found : List ℕ) → 10 ≤ n → digits (suc fuel) n found ≡ digits fuel (n / 10) ((48 + n % 10) ∷ found)
+pub digits_more : (fuel n : ℕ) (found : List ℕ) → 10 ≤ n → digits (suc fuel) n found ≡ digits fuel (n / 10) ((48 + n % 10) ∷ found)
 unfolding digits
 digits_more fuel n found h = rw (le-ltb n 10 h) refl
 

@@ -1,64 +1,69 @@
-// Text into a lent buffer: each function lays bytes at a place and answers the next place.
-ghost use Rattle.std.specs.Prelude.{suc, ◌+◌, ◌*◌, ◌≤◌, ◌<◌, [], ◌∷◌, length, take};
-ghost use Rattle.lines.specs.Text.{decimal, spaced};
-ghost use Rattle.lines.specs.Buffer.{Put};
+// The text of a line, word and number after one another.
+ghost use Rattle.std.specs.Prelude.{◌+◌, ◌*◌, ◌<◌, ◌≤◌, ◌≡◌, ◌∷◌, ◌++◌, length};
+ghost use Rattle.arrayvec.specs.ArrayString.{array_string_len};
+ghost use Rattle.lines.specs.Text.{decimal, line};
+ghost use Rattle.lines.specs.Line.{degree_text, read_text};
 
-// One byte.
-pub fn put_byte(b: u8, out: &mut [u8], at: usize) -> usize
-    requires { at < length out.old }
-    ensures { Put out.old at (b ∷ []) out.new result }
-{
-    out[at] = b;
-    at + 1
-}
-
-// The bytes of a word.
-pub fn put_word(word: &[u8], out: &mut [u8], at: usize) -> usize
-    requires { at + length word.now ≤ length out.old }
-    ensures { Put out.old at word.now out.new result }
-{
-    let mut i = 0;
-    let mut next = at;
-    while i < word.len() {
-        next = put_byte(word[i], out, next);
-        i += 1;
-    }
-    next
-}
+use arrayvec::ArrayString;
+use itoa::Buffer;
 
 // The decimal digits of a number.
-pub fn put_number(n: u64, out: &mut [u8], at: usize) -> usize
-    requires { at + length (decimal n) ≤ length out.old }
-    ensures { Put out.old at (decimal n) out.new result }
+fn push_number<const CAP: usize>(n: u64, out: &mut ArrayString<CAP>)
+    requires { array_string_len out.old + length (decimal n) ≤ CAP }
+    ensures { out.new.bytes ≡ out.old.bytes ++ decimal n }
 {
-    if n < 10 {
-        return put_byte(b'0' + n as u8, out, at);
-    }
-    let next = put_number(n / 10, out, at);
-    put_byte(b'0' + (n % 10) as u8, out, next)
+    let mut digits = Buffer::new();
+    out.push_str(digits.format(n));
 }
 
 // A space and a number.
-pub fn put_spaced_number(n: u64, out: &mut [u8], at: usize) -> usize
-    requires { at + suc (length (decimal n)) ≤ length out.old }
-    ensures { Put out.old at (32 ∷ decimal n) out.new result }
+fn push_spaced<const CAP: usize>(n: u64, out: &mut ArrayString<CAP>)
+    requires { array_string_len out.old + length (decimal n) < CAP }
+    ensures { out.new.bytes ≡ out.old.bytes ++ 32 ∷ decimal n }
 {
-    let next = put_byte(b' ', out, at);
-    put_number(n, out, next)
+    out.push(' ');
+    push_number(n, out);
 }
 
-// The first `count` entries of a row, each after a space: 11 bytes at most for each.
-pub fn put_entries(row: &[u32], count: usize, out: &mut [u8], at: usize) -> usize
-    requires count_in_bounds { count ≤ length row.now }
-    requires count_in_bounds_2 { at + 11 * count ≤ length out.old }
-    ensures put { Put out.old at (spaced (take count row.now)) out.new result }
-    ensures upper_bound { result ≤ at + 11 * count }
+// The degree, or a dash for the zero polynomial.
+fn push_degree<const CAP: usize>(degree: Option<u32>, out: &mut ArrayString<CAP>)
+    requires { array_string_len out.old + 10 ≤ CAP }
+    ensures text { out.new.bytes ≡ out.old.bytes ++ degree_text degree }
+    ensures short { array_string_len out.new ≤ array_string_len out.old + 10 }
 {
-    let mut i = 0;
-    let mut next = at;
-    while i < count {
-        next = put_spaced_number(row[i] as u64, out, next);
-        i += 1;
+    match degree {
+        Some(degree) => push_number(u64::from(degree), out),
+        None => out.push('-'),
     }
-    next
+}
+
+// A word, and numbers each after a space, of 20 digits at most.
+pub(crate) fn write_line<const CAP: usize>(word: &str, numbers: &[u64], out: &mut ArrayString<CAP>)
+    requires { length word.now + 21 * length numbers.now < CAP }
+    ensures { out.new.bytes ≡ line word.now numbers.now }
+{
+    out.clear();
+    out.push_str(word);
+    for n in numbers {
+        push_spaced(*n, out);
+    }
+    out.push('\n');
+}
+
+// The line of a read that is done: an entry has 10 digits at most.
+pub(crate) fn write_read<const CAP: usize>(
+    degree: Option<u32>,
+    entries: &[u32],
+    out: &mut ArrayString<CAP>,
+)
+    requires { 18 + 11 * length entries.now ≤ CAP }
+    ensures { out.new.bytes ≡ read_text degree entries.now }
+{
+    out.clear();
+    out.push_str("read 0 ");
+    push_degree(degree, out);
+    for c in entries {
+        push_spaced(u64::from(*c), out);
+    }
+    out.push('\n');
 }

@@ -1,36 +1,26 @@
--- A point looked for among the first count of a list, and the number that it is answered.
+-- A point looked for among those kept, and the number that it is answered.
 --
---   found_among, none-among    the search found a, or passed every index
---   number_large               the number of a point that is not below p, number_repeated: of one that is kept
---   number_new                 of any other, by whether it is usable
-use Prim.Native.Nat.{ℕ, ◌<◌, ◌≤◌}
-use native.Mathlib.Omega.{arith}
-use mathlib.Core.Bool.{Bool, true, false, not, cond}
-use mathlib.Core.List.{List}
-use mathlib.Core.Path.{◌≡◌, refl, sym, ◌∙◌}
-use lib.ListN.{length, get_or, take}
-use lib.Seq.{length-take-le, get_or-take}
-use borrow.Author.Tests.{le-leb, lt-leb}
+--   searched, tested       so what the search of a lent slice, and the test of a lent pair, say
+--   number_large           the number of a point that is not below p, number_repeated: of one that is kept
+--   number_unusable        of one that is not usable
+--   number_good            of any other
+use Rattle.std.proofs.Common.{ℕ, ◌<◌, ◌≤◌, Bool, true, false, List, ◌≡◌, refl, sym, ap, ◌∙◌, eqb}
+use Rattle.std.specs.List.{list_any}
+use Rattle.std.proofs.lemmas.Bool.{le-leb, lt-leb}
 use Rattle.scope.specs.Point.{usable}
 use Rattle.scope.specs.Number.{◌gives◌otherwise◌, among, point_number}
+use Rattle.points.specs.declared.Pair.{Pair}
+use Rattle.points.specs.Lent.{pair_at}
 use Rattle.job.specs.declared.Job.{Job}
 use Rattle.job.specs.Job.{pair_of, kept_points}
-use Rattle.scope.specs.TestLaws.{among_false}
+use Rattle.offers.specs.Lent.{IsPairOf, lent_pair}
+use Rattle.offers.specs.Among.{among_any}
 
-module _ (a count : ℕ) (s : List ℕ) (room : count ≤ length s) where
-  pub none-among : ((k : ℕ) → k < count → a ≡ get_or s k 0 → ⊥) → false ≡ among a (take count s)
-  none-among h =
-      sym ((among_false a (take count s)).1 (λ i l e. h i (low i l) (e ∙ get_or-take count s i 0 (low i l))))
-    where
-      low : (i : ℕ) → i < length (take count s) → i < count
-      low i l = omega (arith, length-take-le count s room)
+pub searched : (a : ℕ) {s points : List ℕ} {b t : Bool} → b ≡ list_any (λ y. eqb y a) s → s ≡ points → b ≡ t → among a points ≡ t
+searched a {s} e same h = sym (e ∙ sym (among_any a s) ∙ ap (among a) same) ∙ h
 
-  pub found_among : (i : ℕ) → i < count → a ≡ get_or s i 0 → true ≡ among a (take count s)
-  found_among i l e = go (among a (take count s)) refl
-    where
-      go : (t : Bool) → among a (take count s) ≡ t → true ≡ t
-      go true q = refl
-      go false q = absurd ((among_false a (take count s)).0 q i (omega (arith, length-take-le count s room)) (e ∙ sym (get_or-take count s i 0 l)))
+pub tested : (a : ℕ) {j : Job} {P : Pair} {b t : Bool} → IsPairOf j P → b ≡ usable (pair_at P) a → b ≡ t → usable (pair_of j) a ≡ t
+tested a h e at = sym (e ∙ ap (λ Q. usable Q a) (lent_pair h)) ∙ at
 
 -- the tests in the scope's order; each test is what the code found
 module _ (j : Job) (a : ℕ) where
@@ -38,15 +28,14 @@ module _ (j : Job) (a : ℕ) where
   unfolding point_number ◌gives◌otherwise◌ pair_of
   number_large h = rw (le-leb j.p a h) refl
 
-  pub number_repeated : a < j.p → true ≡ among a (take j.count j.points) → 12 ≡ point_number (pair_of j) (kept_points j) a
-  unfolding point_number ◌gives◌otherwise◌ pair_of kept_points
-  number_repeated h here = rw (lt-leb j.p a h, ← here) refl
+  pub number_repeated : a < j.p → among a (kept_points j) ≡ true → 12 ≡ point_number (pair_of j) (kept_points j) a
+  unfolding point_number ◌gives◌otherwise◌ pair_of
+  number_repeated h here = rw (lt-leb j.p a h, here) refl
 
-  pub number_new : a < j.p → false ≡ among a (take j.count j.points) → {t : Bool} → t ≡ usable (pair_of j) a
-      → cond t 0 11 ≡ point_number (pair_of j) (kept_points j) a
-  unfolding point_number ◌gives◌otherwise◌ pair_of kept_points
-  number_new h new {t} e = by t e ∙ sym (rw (lt-leb j.p a h, ← new) refl)
-    where
-      by : (t : Bool) → t ≡ usable (pair_of j) a → cond t 0 11 ≡ (not (usable (pair_of j) a) gives 11 otherwise 0)
-      by true q = rw (← q) refl
-      by false q = rw (← q) refl
+  pub number_unusable : a < j.p → among a (kept_points j) ≡ false → usable (pair_of j) a ≡ false → 11 ≡ point_number (pair_of j) (kept_points j) a
+  unfolding point_number ◌gives◌otherwise◌ pair_of
+  number_unusable h new off = rw (lt-leb j.p a h, new, off) refl
+
+  pub number_good : a < j.p → among a (kept_points j) ≡ false → usable (pair_of j) a ≡ true → 0 ≡ point_number (pair_of j) (kept_points j) a
+  unfolding point_number ◌gives◌otherwise◌ pair_of
+  number_good h new on = rw (lt-leb j.p a h, new, on) refl

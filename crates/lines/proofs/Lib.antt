@@ -1,0 +1,2 @@
+-- Numbers after one another.
+pub mod Rows

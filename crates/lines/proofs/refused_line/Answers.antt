@@ -1,7 +1,0 @@
--- `lines::refused_line`: the bytes of the string are the word.
-use Rattle.lines.specs.Text.{open_word}
-use Rattle.lines.proofs.refused_line.Goals as goal
-
-pub returns : goal.returns
-unfolding open_word
-returns c = c.number_line.ensures
