@@ -2,7 +2,7 @@
 // applies in the scope's order, or hands out the modulus, tested once.
 #![tactic(auto)]
 
-ghost use Rattle.std.specs.Prelude.{◌≡◌, ◌≤◌, length, IfOk};
+ghost use Rattle.std.specs.Prelude.{◌≡◌, ◌≤◌, ◌||◌, length, is_none, IfOk, IfSome};
 ghost use Rattle.scope.specs.Pair.{size};
 ghost use Rattle.scope.specs.Number;
 ghost use Rattle.checks.specs.Outcome.{number_of, wanted_of, outcome};
@@ -108,16 +108,6 @@ pub fn empty(r: &[u32]) -> bool
     r.is_empty()
 }
 
-// Length: a table of another length than its degrees ask
-#[tactic(auto, unfolding(scope::specs::Number::misfit, scope::specs::Pair::size))]
-pub fn misfit(m: u32, e: u32, t: &[u32]) -> bool
-    requires m_bound { m ≤ 16 }
-    requires e_bound { e ≤ 16 }
-    ensures { result ≡ Number.misfit m e t.now }
-{
-    t.len() != ((m + 1) * (e + 1)) as usize
-}
-
 // Entry: one that is >= p
 pub fn over(p: u32, t: &[u32]) -> bool
     ensures { result ≡ Number.over p t.now }
@@ -125,21 +115,71 @@ pub fn over(p: u32, t: &[u32]) -> bool
     t.iter().any(|x| p <= *x)
 }
 
-// Lead: the leading row of a table is zero
-pub fn no_lead(m: u32, e: u32, t: &[u32]) -> bool
-    requires m_bound { m ≤ 16 }
-    requires e_bound { e ≤ 16 }
-    requires t_len { length t.now ≡ size m e }
-    ensures { result ≡ Number.no_lead m e t.now }
-{
-    t[(m * (e + 1)) as usize..].iter().all(|x| *x == 0)
-}
-
 // Lead and Divisor: the last entry is zero, or there is none
 pub fn unended(r: &[u32]) -> bool
     ensures { result ≡ Number.unended r.now }
 {
     r.last().is_none_or(|x| *x == 0)
+}
+
+// A table as it is given: its declared degrees in x and y, and its entries; the coefficient of x^i y^j stands at
+// i (e + 1) + j.
+#[derive(Clone, Copy)]
+pub struct Given<'a> {
+    pub m: u32,
+    pub e: u32,
+    pub entries: &'a [u32],
+}
+
+// A table whose degrees are at most 16, and whose length is the one that they ask
+#[derive(Clone, Copy)]
+pub struct Sheet<'a> {
+    pub given: Given<'a>,
+    pub ghost m_low: { given.m ≤ 16 },
+    pub ghost e_low: { given.e ≤ 16 },
+    pub ghost fits: { length given.entries.now ≡ size given.m given.e },
+}
+
+// Two tables with their modulus, as an opening takes them before it counts points
+#[derive(Clone, Copy)]
+pub struct Sheets<'a> {
+    pub p: Modulus,
+    pub a: Sheet<'a>,
+    pub b: Sheet<'a>,
+}
+
+impl<'a> Given<'a> {
+    // Degree: a declared degree above 16
+    #[tactic(auto, unfolding(scope::specs::Number::too_high))]
+    pub fn too_high(self) -> bool
+        ensures { result ≡ (Number.too_high self.entry.m || Number.too_high self.entry.e) }
+    {
+        too_high(self.m) || too_high(self.e)
+    }
+
+    // The table, where it is as long as its degrees ask
+    #[tactic(auto, unfolding(scope::specs::Number::misfit, scope::specs::Pair::size))]
+    pub fn fitting(self) -> Option<Sheet<'a>>
+        requires m_low { self.m ≤ 16 }
+        requires e_low { self.e ≤ 16 }
+        ensures none { is_none result ≡ Number.misfit self.entry.m self.entry.e self.entry.entries.now }
+        ensures some { IfSome result (λ t. t.given ≡ self.entry) }
+    {
+        if self.entries.len() != ((self.m + 1) * (self.e + 1)) as usize {
+            return None;
+        }
+        Some(Sheet { given: self })
+    }
+}
+
+impl Sheet<'_> {
+    // Lead: the leading row is zero
+    pub fn no_lead(self) -> bool
+        ensures { result ≡ Number.no_lead self.entry.given.m self.entry.given.e self.entry.given.entries.now }
+    {
+        let Given { m, e, entries } = self.given;
+        entries[(m * (e + 1)) as usize..].iter().all(|x| *x == 0)
+    }
 }
 
 // What is refused of a modulus: Range, Composite
@@ -200,24 +240,29 @@ fn division_rows(p: u32, row: &[u32], b: &[u32]) -> Result<(), Refusal>
 }
 
 // What is refused of two tables whose degrees are at most 16: Length, Entry, Lead
-#[tactic(auto, using(crate::proofs::Chain::chain), unfolding(crate::specs::Parts::tables_number, scope::specs::Number::misfit))]
-fn tables(p: u32, m: u32, e: u32, n: u32, f: u32, s: &[u32], t: &[u32]) -> Result<(), Refusal>
-    requires m_bound { m ≤ 16 }
-    requires e_bound { e ≤ 16 }
-    requires n_bound { n ≤ 16 }
-    requires f_bound { f ≤ 16 }
-    ensures { outcome result ≡ tables_number p m e n f s.now t.now }
+#[tactic(auto, using(crate::proofs::Chain::chain), unfolding(crate::specs::Parts::tables_number))]
+fn tables<'a>(p: Modulus, a: Given<'a>, b: Given<'a>) -> Result<Sheets<'a>, Refusal>
+    requires m_low { a.m ≤ 16 }
+    requires e_low { a.e ≤ 16 }
+    requires n_low { b.m ≤ 16 }
+    requires f_low { b.e ≤ 16 }
+    ensures number { outcome result ≡ tables_number p.value a.entry.m a.entry.e b.entry.m b.entry.e a.entry.entries.now b.entry.entries.now }
+    ensures ok { IfOk result (λ s. (s.p ≡ p) × (s.a.given ≡ a.entry) × (s.b.given ≡ b.entry)) }
 {
-    if misfit(m, e, s) || misfit(n, f, t) {
+    let (Some(sheet_a), Some(sheet_b)) = (a.fitting(), b.fitting()) else {
         return Err(Refusal::Length);
-    }
-    if over(p, s) || over(p, t) {
+    };
+    if over(p.value, a.entries) || over(p.value, b.entries) {
         return Err(Refusal::Entry);
     }
-    if no_lead(m, e, s) || no_lead(n, f, t) {
+    if sheet_a.no_lead() || sheet_b.no_lead() {
         return Err(Refusal::Lead);
     }
-    Ok(())
+    Ok(Sheets {
+        p,
+        a: sheet_a,
+        b: sheet_b,
+    })
 }
 
 // The row resultant: 2 to 7
@@ -258,22 +303,13 @@ pub fn division(p: u32, row: &[u32], b: &[u32]) -> Result<Modulus, Refusal>
 
 // Opening: 2 to 7
 #[tactic(auto, using(crate::proofs::Chain::chain, crate::specs::Parts::shape_parts), unfolding(scope::specs::Number::too_high))]
-pub fn shape(
-    p: u32,
-    m: u32,
-    e: u32,
-    n: u32,
-    f: u32,
-    s: &[u32],
-    t: &[u32],
-) -> Result<Modulus, Refusal>
-    ensures number { outcome result ≡ shape_number p m e n f s.now t.now }
-    ensures ok { IfOk result (λ q. q.value ≡ p) }
+pub fn shape<'a>(p: u32, a: Given<'a>, b: Given<'a>) -> Result<Sheets<'a>, Refusal>
+    ensures number { outcome result ≡ shape_number p a.entry.m a.entry.e b.entry.m b.entry.e a.entry.entries.now b.entry.entries.now }
+    ensures ok { IfOk result (λ s. (s.p.value ≡ p) × (s.a.given ≡ a.entry) × (s.b.given ≡ b.entry)) }
 {
-    let q = modulus(p)?;
-    if too_high(m) || too_high(e) || too_high(n) || too_high(f) {
+    let p = modulus(p)?;
+    if a.too_high() || b.too_high() {
         return Err(Refusal::Degree);
     }
-    tables(p, m, e, n, f, s, t)?;
-    Ok(q)
+    tables(p, a, b)
 }
