@@ -1,61 +1,52 @@
 // Opening: from two tables to a sound job, or to the first refusal.
 #![tactic(auto)]
 
-ghost use Rattle.std.specs.Prelude.{◌≡◌, ◌≤◌, length, IfOk};
-ghost use Rattle.scope.specs.Pair.{size};
+ghost use Rattle.std.specs.Prelude.{◌≡◌, IfOk};
 ghost use Rattle.checks.specs.Outcome.{outcome};
 ghost use Rattle.job.specs.Job as layout;
 ghost use Rattle.job.specs.Public.{strict_number, strict_job};
 
-use checks::Refusal;
+use checks::{Given, Refusal, Sheet};
 use job::Job;
 use offers::SoundJob;
 use points::{Pair, Table};
 
-// A table of degrees m in x and e in y, laid out 17 places to a power of x
-pub fn spread(t: &[u32], m: usize, e: usize) -> [u32; 289]
-    requires m_most { m ≤ 16 }
-    requires e_most { e ≤ 16 }
-    requires fits { length t.now ≡ size m e }
-    ensures { result ≡ layout.spread e t.now }
+// A table laid out 17 places to a power of x
+pub fn spread(sheet: Sheet) -> [u32; 289]
+    ensures { result ≡ layout.spread sheet.entry.given.e sheet.entry.given.entries.now }
 {
-    let row = e + 1;
+    let Given { m, e, entries } = sheet.given;
+    let row = e as usize + 1;
     let mut out = [0u32; 289];
-    for i in 0..m + 1 {
-        out[i * 17..i * 17 + row].copy_from_slice(&t[i * row..i * row + row]);
+    for i in 0..m as usize + 1 {
+        out[i * 17..i * 17 + row].copy_from_slice(&entries[i * row..i * row + row]);
     }
     out
 }
 
 // The strict opening: the first refusal, or the job with no point kept.
 // D, and with it the count of usable points, goes by the powers of y that really occur.
-pub fn strict(
-    p: u32,
-    m: u32,
-    e: u32,
-    n: u32,
-    f: u32,
-    s: &[u32],
-    t: &[u32],
-) -> Result<SoundJob, Refusal>
-    ensures number { outcome result ≡ strict_number p m e n f s.now t.now }
-    ensures job { IfOk result (λ j. j.job ≡ strict_job p m e n f s.now t.now) }
+pub fn strict(p: u32, a: Given, b: Given) -> Result<SoundJob, Refusal>
+    ensures number { outcome result ≡ strict_number p a.entry.m a.entry.e b.entry.m b.entry.e a.entry.entries.now b.entry.entries.now }
+    ensures job { IfOk result (λ j. j.job ≡ strict_job p a.entry.m a.entry.e b.entry.m b.entry.e a.entry.entries.now b.entry.entries.now) }
 {
-    let modulus = checks::shape(p, m, e, n, f, s, t)?;
-    let a = spread(s, m as usize, e as usize);
-    let b = spread(t, n as usize, f as usize);
-    let da = points::true_degree(&a, m as usize);
-    let db = points::true_degree(&b, n as usize);
+    let sheets = checks::shape(p, a, b)?;
+    let laid_a = spread(sheets.a);
+    let laid_b = spread(sheets.b);
+    let m = a.m as usize;
+    let n = b.m as usize;
+    let da = points::true_degree(&laid_a, m);
+    let db = points::true_degree(&laid_b, n);
     let pair = Pair {
-        p: modulus,
+        p: sheets.p,
         a: Table {
-            entries: &a,
-            m: m as usize,
+            entries: &laid_a,
+            m,
             d: da,
         },
         b: Table {
-            entries: &b,
-            m: n as usize,
+            entries: &laid_b,
+            m: n,
             d: db,
         },
     };
@@ -65,13 +56,13 @@ pub fn strict(
     }
     let job = Job {
         p,
-        m,
-        n,
+        m: a.m,
+        n: b.m,
         da: da as u32,
         db: db as u32,
         count: 0,
-        a,
-        b,
+        a: laid_a,
+        b: laid_b,
         points: [0u32; 513],
         values: [0u32; 513],
     };

@@ -3,4 +3,4 @@ use Rattle.opening.proofs.Laying.{Laid}
 use Rattle.opening.proofs.spread.Given as goal
 
 abbrev pub invariant-loop-i : goal.invariant-loop-i
-invariant-loop-i l = Laid l.e l.t l.i l.out
+invariant-loop-i l = Laid l.sheet.given.e l.sheet.given.entries.now l.i l.out
