@@ -7,7 +7,7 @@ ghost use Rattle.std.specs.Prelude.{◌≡◌};
 ghost use Rattle.checks.specs.Outcome.{number_of};
 ghost use Rattle.kernel.specs.Results.{RowResult, PlainResult, DivisionResult, DivisorResult, OpenResult, OfferResult, LotResult, ReadResult, ShotResult};
 
-use checks::Refusal;
+use checks::{Given, Refusal};
 use job::{Job, JobAnswer, ReadAnswer};
 
 // value: the resultant. steps: the coefficient steps of the remainder sequence.
@@ -101,7 +101,13 @@ pub fn divisor<'a>(a: &'a [u32], b: &'a [u32]) -> &'a [u32]
 pub fn open(p: u32, m: u32, e: u32, n: u32, f: u32, a: &[u32], b: &[u32]) -> JobAnswer
     ensures { OpenResult p m e n f a.now b.now result }
 {
-    match opening::strict(p, m, e, n, f, a, b) {
+    let a = Given { m, e, entries: a };
+    let b = Given {
+        m: n,
+        e: f,
+        entries: b,
+    };
+    match opening::strict(p, a, b) {
         Ok(opened) => JobAnswer {
             number: 0,
             job: opened.job,
@@ -166,7 +172,13 @@ pub fn one_shot(
 ) -> ReadAnswer
     ensures { ShotResult p m e n f a.now b.now out.old result out.new }
 {
-    reads::answer(reads::one_shot(p, m, e, n, f, a, b, out))
+    let a = Given { m, e, entries: a };
+    let b = Given {
+        m: n,
+        e: f,
+        entries: b,
+    };
+    reads::answer(reads::one_shot(p, a, b, out))
 }
 
 // A refusal, with the job that it hands back.

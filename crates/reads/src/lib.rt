@@ -10,7 +10,7 @@ ghost use Rattle.reads.specs.Answered.{answered};
 ghost use Rattle.reads.specs.Read.{ReadSound};
 ghost use Rattle.reads.specs.Shot.{Shot};
 
-use checks::Refusal;
+use checks::{Given, Refusal};
 use job::ReadAnswer;
 use offers::SoundJob;
 
@@ -69,19 +69,10 @@ fn filled(fresh: SoundJob) -> SoundJob
 }
 
 // The one-shot: the opening, the smallest points that suffice, and the read
-pub fn one_shot(
-    p: u32,
-    m: u32,
-    e: u32,
-    n: u32,
-    f: u32,
-    s: &[u32],
-    t: &[u32],
-    out: &mut [u32],
-) -> Result<Option<u32>, Refusal>
-    ensures { Shot p m e n f s.now t.now out.old (answered result) out.new }
+pub fn one_shot(p: u32, a: Given, b: Given, out: &mut [u32]) -> Result<Option<u32>, Refusal>
+    ensures { Shot p a.entry.m a.entry.e b.entry.m b.entry.e a.entry.entries.now b.entry.entries.now out.old (answered result) out.new }
 {
-    let fresh = opening::strict(p, m, e, n, f, s, t)?;
+    let fresh = opening::strict(p, a, b)?;
     if out.len() < fresh.needed() as usize {
         return Err(Refusal::Room);
     }

@@ -10,7 +10,7 @@ ghost use Rattle.job.specs.Sound.{zeros, sound_pair, sound_points, shaped, sound
 ghost use Rattle.offers.specs.Lent.{IsOpened};
 ghost use Rattle.sounding.specs.Parts.{sound_numbers, sound_table, sound_tables, kept_at, kept_pairs};
 
-use checks::Refusal;
+use checks::{Given, Refusal, Sheet};
 use job::Job;
 use offers::SoundJob;
 use points::Pair;
@@ -31,9 +31,16 @@ fn sound_table(p: u32, t: &[u32], m: u32, d: u32) -> bool
     ensures { result ≡ sound_table p m d t.now }
 {
     let end = (m as usize + 1) * 17;
+    let rows = Sheet {
+        given: Given {
+            m,
+            e: 16,
+            entries: &t[..end],
+        },
+    };
     !checks::over(p, t)
         && zeros_from(t, end)
-        && !checks::no_lead(m, 16, &t[..end])
+        && !rows.no_lead()
         && d as usize == points::true_degree(t, m as usize)
 }
 
