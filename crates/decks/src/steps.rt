@@ -14,7 +14,7 @@ ghost use Rattle.std.proofs.Props.{props};
 use crate::records::{Kind, number4};
 use crate::{Deck, Stage};
 use arrayvec::ArrayString;
-use checks::Refusal;
+use checks::{Given, Refusal};
 use lines::Line;
 use offers::SoundJob;
 
@@ -118,9 +118,17 @@ impl FitDeck {
         ensures { Opens self.now.state result }
     {
         let d = &self.state;
-        let size_a = ((d.m + 1) * 17) as usize;
-        let size_b = ((d.n + 1) * 17) as usize;
-        opening::strict(d.p, d.m, 16, d.n, 16, &d.a[..size_a], &d.b[..size_b])
+        let a = Given {
+            m: d.m,
+            e: 16,
+            entries: &d.a[..((d.m + 1) * 17) as usize],
+        };
+        let b = Given {
+            m: d.n,
+            e: 16,
+            entries: &d.b[..((d.n + 1) * 17) as usize],
+        };
+        opening::strict(d.p, a, b)
     }
 
     // The open job.
