@@ -1,5 +1,5 @@
 // What a call refuses of its input. A test says whether one refusal applies; a check answers the first refusal that
-// applies in the scope's order, or hands out the modulus, tested once.
+// applies in the scope's order, or hands out what it tested: the modulus, and the tables of an opening.
 #![tactic(auto)]
 
 ghost use Rattle.std.specs.Prelude.{◌≡◌, ◌≤◌, ◌||◌, length, is_none, IfOk, IfSome};
@@ -7,7 +7,7 @@ ghost use Rattle.scope.specs.Pair.{size};
 ghost use Rattle.scope.specs.Number;
 ghost use Rattle.checks.specs.Outcome.{number_of, wanted_of, outcome};
 ghost use Rattle.checks.specs.Shape.{shape_number};
-ghost use Rattle.checks.specs.Parts.{modulus_number, lengths_number, entries_number, division_rows_number, tables_number};
+ghost use Rattle.checks.specs.Parts.{modulus_number, lengths_number, entries_number, division_rows_number};
 
 use field::Modulus;
 
@@ -140,7 +140,7 @@ pub struct Sheet<'a> {
     pub ghost fits: { length given.entries.now ≡ size given.m given.e },
 }
 
-// Two tables with their modulus, as an opening takes them before it counts points
+// The modulus and the tables of an opening, tested but for the count of usable points
 #[derive(Clone, Copy)]
 pub struct Sheets<'a> {
     pub p: Modulus,
@@ -151,13 +151,13 @@ pub struct Sheets<'a> {
 impl<'a> Given<'a> {
     // Degree: a declared degree above 16
     #[tactic(auto, unfolding(scope::specs::Number::too_high))]
-    pub fn too_high(self) -> bool
+    fn too_high(self) -> bool
         ensures { result ≡ (Number.too_high self.entry.m || Number.too_high self.entry.e) }
     {
         too_high(self.m) || too_high(self.e)
     }
 
-    // The table, where it is as long as its degrees ask
+    // Length: None for a table of another length than its degrees ask
     #[tactic(auto, unfolding(scope::specs::Number::misfit, scope::specs::Pair::size))]
     pub fn fitting(self) -> Option<Sheet<'a>>
         requires m_low { self.m ≤ 16 }
@@ -239,32 +239,6 @@ fn division_rows(p: u32, row: &[u32], b: &[u32]) -> Result<(), Refusal>
     Ok(())
 }
 
-// What is refused of two tables whose degrees are at most 16: Length, Entry, Lead
-#[tactic(auto, using(crate::proofs::Chain::chain), unfolding(crate::specs::Parts::tables_number))]
-fn tables<'a>(p: Modulus, a: Given<'a>, b: Given<'a>) -> Result<Sheets<'a>, Refusal>
-    requires m_low { a.m ≤ 16 }
-    requires e_low { a.e ≤ 16 }
-    requires n_low { b.m ≤ 16 }
-    requires f_low { b.e ≤ 16 }
-    ensures number { outcome result ≡ tables_number p.value a.entry.m a.entry.e b.entry.m b.entry.e a.entry.entries.now b.entry.entries.now }
-    ensures ok { IfOk result (λ s. (s.p ≡ p) × (s.a.given ≡ a.entry) × (s.b.given ≡ b.entry)) }
-{
-    let (Some(sheet_a), Some(sheet_b)) = (a.fitting(), b.fitting()) else {
-        return Err(Refusal::Length);
-    };
-    if over(p.value, a.entries) || over(p.value, b.entries) {
-        return Err(Refusal::Entry);
-    }
-    if sheet_a.no_lead() || sheet_b.no_lead() {
-        return Err(Refusal::Lead);
-    }
-    Ok(Sheets {
-        p,
-        a: sheet_a,
-        b: sheet_b,
-    })
-}
-
 // The row resultant: 2 to 7
 #[tactic(auto, using(crate::proofs::Chain::chain, crate::specs::Parts::row_parts))]
 pub fn row(p: u32, a: &[u32], b: &[u32]) -> Result<Modulus, Refusal>
@@ -302,14 +276,27 @@ pub fn division(p: u32, row: &[u32], b: &[u32]) -> Result<Modulus, Refusal>
 }
 
 // Opening: 2 to 7
-#[tactic(auto, using(crate::proofs::Chain::chain, crate::specs::Parts::shape_parts), unfolding(scope::specs::Number::too_high))]
+#[tactic(auto, using(crate::proofs::Chain::chain, crate::specs::Parts::shape_parts), unfolding(scope::specs::Number::too_high, crate::specs::Parts::tables_number))]
 pub fn shape<'a>(p: u32, a: Given<'a>, b: Given<'a>) -> Result<Sheets<'a>, Refusal>
     ensures number { outcome result ≡ shape_number p a.entry.m a.entry.e b.entry.m b.entry.e a.entry.entries.now b.entry.entries.now }
     ensures ok { IfOk result (λ s. (s.p.value ≡ p) × (s.a.given ≡ a.entry) × (s.b.given ≡ b.entry)) }
 {
-    let p = modulus(p)?;
+    let modulus = modulus(p)?;
     if a.too_high() || b.too_high() {
         return Err(Refusal::Degree);
     }
-    tables(p, a, b)
+    let (Some(sheet_a), Some(sheet_b)) = (a.fitting(), b.fitting()) else {
+        return Err(Refusal::Length);
+    };
+    if over(p, a.entries) || over(p, b.entries) {
+        return Err(Refusal::Entry);
+    }
+    if sheet_a.no_lead() || sheet_b.no_lead() {
+        return Err(Refusal::Lead);
+    }
+    Ok(Sheets {
+        p: modulus,
+        a: sheet_a,
+        b: sheet_b,
+    })
 }
