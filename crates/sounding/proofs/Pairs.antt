@@ -4,7 +4,7 @@
 --   Kept P points values i    the pair at i would have been kept after those before it
 --   pairs_kept     the test of all pairs holds exactly where each would have been kept
 --   pairs_broken   so it fails where one would not
-use Rattle.std.specs.Prelude.{ℕ, ◌<◌, ◌≤◌, Bool, true, false, not, ◌&&◌, List, [], map, ◌≡◌, refl, ◌↔◌, leb, eqb, length, get_or, take}
+use Rattle.std.specs.Prelude.{ℕ, ◌<◌, Bool, true, false, not, ◌&&◌, List, [], map, ◌≡◌, refl, ◌↔◌, leb, eqb, length, get_or, take}
 use Rattle.std.proofs.Common.{arith, ap, sym, ◌∙◌, eqb-true, eq-eqb, length-take-le, get_or-take}
 use Rattle.std.proofs.Math.Bool.{and-eq-true_iff}
 use Rattle.std.proofs.lemmas.Bool.{false≢true}

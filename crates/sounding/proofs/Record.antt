@@ -7,7 +7,7 @@
 --   lent_enough                     as many points are usable as are needed where the lent pair has as many as it needs
 --   lent_points                     the test of the kept points in its parts, on the lent pair
 --   record_parts                    the whole test is that of the pair, then that of the points
-use Rattle.std.proofs.Common.{ℕ, ◌+◌, ◌*◌, ◌≤◌, Bool, true, false, not, ◌&&◌, [], map, ◌≡◌, refl, sym, ap, ◌∙◌, leb, eqb, length, take, drop, eqb-true, eq-eqb}
+use Rattle.std.proofs.Common.{ℕ, ◌+◌, ◌*◌, ◌≤◌, Bool, true, false, not, ◌&&◌, [], map, ◌≡◌, refl, sym, ap, ◌∙◌, leb, eqb, length, take, drop, eqb-true}
 use Rattle.std.proofs.Math.Bool.{and_assoc, and-eq-true_iff}
 use Rattle.std.proofs.lemmas.Bool.{not-true}
 use Rattle.residue.specs.Prime.{Modulus}
@@ -20,7 +20,6 @@ use Rattle.points.specs.Lent.{pair_at}
 use Rattle.job.specs.declared.Job.{Job}
 use Rattle.job.specs.Job.{pair_of, kept_points}
 use Rattle.job.specs.Sound.{zeros, same, good, sound_pair, sound_points, shaped, sound?}
-use Rattle.job.specs.SoundTests.{done, ◌also◌, every-conj}
 use Rattle.offers.specs.Lent.{IsOpened, IsPairOf, lent_pair, lent_needed}
 use Rattle.sounding.specs.Parts.{sound_numbers, sound_table, sound_tables, kept_pairs}
 
