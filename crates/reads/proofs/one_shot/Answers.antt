@@ -1,8 +1,12 @@
 -- `reads::one_shot`: by what the opening answers, and by the room that the output has.
 use Rattle.std.proofs.Common.{arith}
 use Rattle.std.proofs.lemmas.Result.{err_from_is_err_and}
-use Rattle.reads.proofs.Shooting.{opened_as, opened-fresh, shot_refused, shot_short, shot_read}
+use Rattle.reads.proofs.Shooting.{OpenedAs, opened_as, opened-fresh, shot_refused, shot_short, shot_read}
 use Rattle.reads.proofs.one_shot.Goals as goal
+use Rattle.reads.proofs.one_shot.Goals.{In_ok-fresh}
+
+opened : (c : In_ok-fresh) → OpenedAs c.args.p c.args.a.m c.args.a.e c.args.b.m c.args.b.e c.args.a.entries.now c.args.b.entries.now c.in_ok-fresh.fresh.job
+opened c = opened_as _ _ _ _ _ _ _ c.in_ok-fresh.ensures.number c.in_ok-fresh.ensures.job
 
 pub returns-in_err-fresh : goal.returns-in_err-fresh
 returns-in_err-fresh c =
@@ -11,12 +15,12 @@ returns-in_err-fresh c =
 
 pub returns-then-out-needed : goal.returns-then-out-needed
 returns-then-out-needed c =
-    shot_short _ _ _ _ _ _ _ _ _ (opened_as _ _ _ _ _ _ _ c.in_ok-fresh.ensures.number c.in_ok-fresh.ensures.job) _ c.needed.ensures (omega arith)
+    shot_short _ _ _ _ _ _ _ _ _ (opened (goal.at.returns-then-out-needed c).In_ok-fresh) _ c.needed.ensures (omega arith)
 
 pub filled-requires : goal.filled-requires
-filled-requires c = opened-fresh _ _ _ _ _ _ _ _ (opened_as _ _ _ _ _ _ _ c.in_ok-fresh.ensures.number c.in_ok-fresh.ensures.job)
+filled-requires c = opened-fresh _ _ _ _ _ _ _ _ (opened (goal.at.filled-requires c).In_ok-fresh)
 
 pub returns : goal.returns
 returns c =
-    shot_read _ _ _ _ _ _ _ _ _ (opened_as _ _ _ _ _ _ _ c.in_ok-fresh.ensures.number c.in_ok-fresh.ensures.job)
+    shot_read _ _ _ _ _ _ _ _ _ (opened (goal.at.returns c).In_ok-fresh)
     _ c.needed.ensures _ c.filled.ensures c.if-out-needed.false _ _ c.read.ensures
