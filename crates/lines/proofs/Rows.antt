@@ -1,6 +1,6 @@
 -- Numbers after one another.
 --
---   decimal-kit          the kit's decimal digits of a number are those of `Text`
+--   decimal-library      the library's decimal digits of a number are those of `Text`
 --   row_none, row_more   what stands before a row, and after one number more of it
 --   row_room             a row's first numbers and the next one take no more room than the row
 --   row_end, row_width   what stands after a row and the end of its line, and how long the text before the end is
@@ -14,9 +14,9 @@ use Rattle.lines.specs.Text.{digits, decimal, spaced, line}
 use Rattle.lines.specs.Line.{degree_text, read_text}
 use Rattle.lines.specs.TextLaws.{digits_last, digits_more, spaced-on, spaced-one}
 
-pub decimal-kit : (n : ℕ) → n < 2 ^ 64 → Fmt·decimal n ≡ decimal n
+pub decimal-library : (n : ℕ) → n < 2 ^ 64 → Fmt·decimal n ≡ decimal n
 unfolding decimal
-decimal-kit n h =
+decimal-library n h =
     let own : PrependsLastDigit digits = record { one = digits_last; more = digits_more } in
     sym (append-nil (Fmt·decimal n)) ∙ sym (decimal_from_prepends digits own (suc n) n [] h (omega (arith, length-decimal-le_succ n h)))
 
