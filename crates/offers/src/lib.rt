@@ -65,7 +65,7 @@ pub struct SoundJob {
 
 impl SoundJob {
     // Its two polynomials
-    pub fn pair(&self) -> Pair<'_>
+    fn pair(&self) -> Pair<'_>
         ensures { IsPairOf self.now.job result }
     {
         lend(&self.job)
