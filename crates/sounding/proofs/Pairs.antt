@@ -4,11 +4,11 @@
 --   Kept P points values i    the pair at i would have been kept after those before it
 --   pairs_kept     the test of all pairs holds exactly where each would have been kept
 --   pairs_broken   so it fails where one would not
-use Rattle.std.specs.Prelude.{ℕ, ◌<◌, ◌≤◌, Bool, true, false, not, ◌&&◌, List, [], map, ◌≡◌, refl, ◌↔◌, leb, eqb, length, get_or, take}
-use Rattle.std.proofs.Common.{arith, ap, sym, ◌∙◌, eqb-true, eq-eqb, length-take-le, get_or-take}
+use Rattle.std.specs.Prelude.{ℕ, ◌<◌, Bool, true, false, not, ◌&&◌, List, [], map, ◌≡◌, refl, ◌↔◌, leb, eqb, length, get_or, take}
+use Rattle.std.proofs.Common.{arith, ap, sym, ◌∙◌, length-take-le, get_or-take}
 use Rattle.std.proofs.Math.Bool.{and-eq-true_iff}
-use Rattle.std.proofs.lemmas.Bool.{false≢true}
 use Rattle.std.proofs.lemmas.Bool.Decides.{nat_tests}
+use Rattle.std.proofs.lemmas.Grind.{common_steps}
 use Rattle.std.proofs.lemmas.List.{length-map, ext_get_or, get_or-map}
 use Rattle.scope.specs.Pair.{Pair}
 use Rattle.scope.specs.Point.{usable, kept}
@@ -43,14 +43,11 @@ module _ (P : Pair) (points values : List ℕ) where
 
     at_each : Kept P points values i → Fine × (get_or values i 0 ≡ kept P (get_or points i 0))
     unfolding kept_at Fine
-    at_each h =
-        let (point, value) = (and-eq-true_iff (eqb (point_number P (take i points) (get_or points i 0)) 0) (eqb (get_or values i 0) (kept P (get_or points i 0)))).0 h in
-        ((point_number-zero P (take i points) (get_or points i 0)).0 (eqb-true _ 0 point), eqb-true _ _ value)
+    at_each h = ((point_number-zero P (take i points) (get_or points i 0)).0 (grind (arith, common_steps)), grind (arith, common_steps))
 
     each_at : Fine → get_or values i 0 ≡ kept P (get_or points i 0) → Kept P points values i
     unfolding kept_at Fine
-    each_at f e =
-        both_true _ _ (eq-eqb _ 0 ((point_number-zero P (take i points) (get_or points i 0)).1 f)) (eq-eqb _ _ e)
+    each_at f e = let zero = (point_number-zero P (take i points) (get_or points i 0)).1 f in grind (arith, common_steps)
 
   before_at : (i k : ℕ) → i < length points → k < i → get_or (take i points) k 0 ≡ get_or points k 0
   before_at i k l h = get_or-take i points k 0 h
@@ -102,8 +99,4 @@ module _ (P : Pair) (points values : List ℕ) where
   pairs_kept long = (pairs_each, each_pairs long)
 
   pub pairs_broken : (i : ℕ) → i < length points → kept_at P (take i points) (get_or points i 0) (get_or values i 0) ≡ false → kept_pairs P points values ≡ false
-  pairs_broken i l h = go (kept_pairs P points values) refl
-    where
-      go : (t : Bool) → kept_pairs P points values ≡ t → t ≡ false
-      go true e = absurd (false≢true (sym h ∙ pairs_each e i l))
-      go false e = refl
+  pairs_broken i l h = grind (arith, common_steps, λ (e : kept_pairs P points values ≡ true). pairs_each e i l)

@@ -14,7 +14,7 @@ use Rattle.std.proofs.lemmas.Grind.{common_steps}
 use Rattle.residue.specs.Prime.{Modulus}
 use Rattle.scope.specs.Pair.{term, occurs, largest, degree_a, degree_b, tables}
 use Rattle.scope.specs.Point.{kept, needed, usables, enough}
-use Rattle.scope.specs.Number.{outside, composite, too_high, over, no_lead}
+use Rattle.scope.specs.Number.{over, no_lead}
 use Rattle.scope.specs.TestLaws.{modulus_tests, too_high_false}
 use Rattle.points.specs.declared.Pair.{Pair}
 use Rattle.points.specs.Lent.{pair_at}
