@@ -1,7 +1,7 @@
 // Arithmetic on lent slices: values of polynomials, a pair of tables at a point, and Newton's rule.
 #![tactic(auto)]
 
-ghost use Rattle.std.specs.Prelude.{◌≡◌, ℕ, cond, not, ◌++◌, suc, ◌+◌, ◌*◌, ◌-◌, ◌<◌, ◌≤◌, eqb, length, get_or, replicate, Option, Some, None};
+ghost use Rattle.std.specs.Prelude.{◌≡◌, ℕ, cond, not, ◌++◌, suc, ◌+◌, ◌*◌, ◌-◌, ◌<◌, ◌≤◌, eqb, length, get_or, replicate, Option, Some, None, IfSome};
 ghost use Rattle.residue.specs.Residue.{residues, res, val};
 ghost use Rattle.residue.specs.Inverse.{inv};
 ghost use Rattle.polynomial.specs.Interpolation.{newton};
@@ -222,7 +222,8 @@ pub fn interpolate(p: Modulus, xs: &[u32], vs: &[u32], out: &mut [u32])
 
 // The degree of the polynomial with these coefficients, lowest first; None where it is zero
 pub fn degree(coefficients: &[u32]) -> Option<usize>
-    ensures { result ≡ cond (some (length coefficients.now) (λ k. not (eqb (get_or coefficients.now k 0) 0))) (Some (largest (length coefficients.now - 1) (λ k. not (eqb (get_or coefficients.now k 0) 0)))) None }
+    ensures bound { IfSome result (λ k. k < length coefficients.now) }
+    ensures value { result ≡ cond (some (length coefficients.now) (λ k. not (eqb (get_or coefficients.now k 0) 0))) (Some (largest (length coefficients.now - 1) (λ k. not (eqb (get_or coefficients.now k 0) 0)))) None }
 {
     coefficients.iter().rposition(|c| *c != 0)
 }

@@ -3,5 +3,5 @@ use Rattle.std.proofs.Common.{rules}
 use Rattle.points.proofs.Searches.{last_degree}
 use Rattle.points.proofs.degree.Goals as goal
 
-pub returns : goal.returns
-returns c = last_degree c.args.coefficients.now c.rposition.result (λ e. search rules) (λ i e. (search rules, search rules, search rules))
+pub returns-clause-value : goal.returns-clause-value
+returns-clause-value c = last_degree c.args.coefficients.now c.rposition.result (λ e. search rules) (λ i e. (search rules, search rules, search rules))

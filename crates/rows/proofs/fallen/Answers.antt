@@ -6,10 +6,10 @@ use Rattle.rows.proofs.Trim.{trim-front-length}
 use Rattle.rows.proofs.fallen.Goals as goal
 
 pub returns-then-m-eq0 : goal.returns-then-m-eq0
-returns-then-m-eq0 c = constant-value c.args.p _ _ c.if-m-eq0.true c.power.ensures.0 c.power.ensures.1
+returns-then-m-eq0 c = constant-value c.args.p _ _ (omega (arith, c.if-m-eq0.true)) c.power.ensures.0 c.power.ensures.1
 
 pub returns-then-len-eq0 : goal.returns-then-len-eq0
-returns-then-len-eq0 c = vanish-value c.args.p _ _ c.true_length-len.ensures c.if-m-eq0.false c.if-len-eq0.true
+returns-then-len-eq0 c = vanish-value c.args.p _ _ c.true_length-len.ensures (omega (arith, c.if-m-eq0.false)) c.if-len-eq0.true
 
 pub overflow_sub-n-2 : goal.overflow_sub-n-2
 overflow_sub-n-2 c = omega (arith, c.true_length-len.ensures, trim-length c.args.w.now)

@@ -14,7 +14,3 @@ mul_sub-requires-clause-c_lt_p c =
 
 pub loop-i-preserved : goal.loop-i-preserved
 loop-i-preserved c = less-more c.args.p c.args.q _ _ c.loop-i.invariant (omega arith) (omega arith) c.mul_sub.ensures
-
-pub returns : goal.returns
-returns c =
-    c.loop-i.invariant ∙ ap (less c.args.p c.args.q c.args.part.now) (take_all c.loop-i.i c.args.b.now (omega arith))
