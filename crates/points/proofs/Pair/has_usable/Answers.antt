@@ -16,6 +16,3 @@ loop-y-preserved c = elim c.if-usable.branch [
   | then-usable w ↦ (omega arith, omega arith, w.found-is ∙ counted-take _ _ c.loop-y.invariant.2 (sym c.usable.ensures ∙ w.if-usable.true))
   | else-usable w ↦ (omega arith, omega arith, w.found-is ∙ counted_skip _ _ c.loop-y.invariant.2 (sym c.usable.ensures ∙ w.if-usable.false))
 ]
-
-pub returns : goal.returns
-returns c = enough_counted _ _ _ _ c.loop-y.invariant.2 (omega arith)
