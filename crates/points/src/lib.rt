@@ -86,6 +86,7 @@ impl Table<'_> {
 }
 
 // Whether the leading rows of both tables are nonzero at y
+#[tactic(auto, unfolding(scope::specs::Point::usable, scope::specs::Pair::tables))]
 pub fn usable_at(p: u32, a: Table, b: Table, y: u32) -> bool
     requires { 0 < p }
     ensures { result ≡ usable (tables p a.entry.m 16 b.entry.m 16 a.entry.entries.now b.entry.entries.now) y }
@@ -134,6 +135,7 @@ impl Pair<'_> {
     }
 
     // Whether at least `wanted` points below p are usable; it stops as soon as so many are found
+    #[tactic(auto, using(crate::proofs::Counting::counting))]
     pub fn has_usable(self, wanted: usize) -> bool
         ensures { result ≡ leb wanted (length (usables (pair_at self.entry) self.entry.p.value)) }
     {
