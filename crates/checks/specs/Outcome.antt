@@ -1,6 +1,7 @@
 -- The number of a refusal, and of a call's outcome.
 --
 --   number_of r           what the scope's table lists for a refusal
+--   wanted_of r           how many points are still wanted; 0 with any other refusal
 --   outcome r             0 of a call that is not refused, otherwise the number of its refusal
 --   kind r                a refusal without the count of points that it may carry
 --   number_of_bounds      the number of a refusal is neither 0 nor 1, and at most 17
@@ -29,6 +30,10 @@ number_of (Wanted _) = 14
 number_of Divisor = 15
 number_of Unsound = 16
 number_of Large = 17
+
+abbrev pub wanted_of : Refusal → ℕ
+wanted_of (Wanted w) = w
+wanted_of r = 0
 
 abbrev pub outcome : {A : Type 0} → Result A Refusal → ℕ
 outcome (Ok _) = 0

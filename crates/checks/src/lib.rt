@@ -5,7 +5,7 @@
 ghost use Rattle.std.specs.Prelude.{◌≡◌, ◌≤◌, length, IfOk};
 ghost use Rattle.scope.specs.Pair.{size};
 ghost use Rattle.scope.specs.Number;
-ghost use Rattle.checks.specs.Outcome.{number_of, outcome};
+ghost use Rattle.checks.specs.Outcome.{number_of, wanted_of, outcome};
 ghost use Rattle.checks.specs.Shape.{shape_number};
 ghost use Rattle.checks.specs.Parts.{modulus_number, lengths_number, entries_number, division_rows_number, tables_number};
 
@@ -54,6 +54,16 @@ impl Refusal {
             Refusal::Divisor => 15,
             Refusal::Unsound => 16,
             Refusal::Large => 17,
+        }
+    }
+
+    // How many points are still wanted; 0 with any other refusal
+    pub fn wanted(self) -> u32
+        ensures { result ≡ wanted_of self }
+    {
+        match self {
+            Refusal::Wanted(points) => points,
+            _ => 0,
         }
     }
 }

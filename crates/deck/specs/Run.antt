@@ -1,14 +1,18 @@
 -- What a run of the program does with what arrives, and that what arrives is what was read. Only what the system's streams
 -- read and write is left out: no contract can say it.
 --
+--   message f            what is told on standard error
 --   told d offset a      what an arrival does in the state d: a failed read stops the run, the end of input prints `end` and
 --                        stops it, and a record is stepped
 --   past a               how many bytes further the next record begins
 --   Place                where a run stands: the state, the next record's place, the text printed, and whether it stopped
 --   start, on w a        before the first record, and after an arrival
 --   Turns w xs v         the arrivals xs lead from w to v; each comes while the run goes on
---   Goes run a ..        the code's step: state, place, halt and line are those of the arrival a
---   Turned run ..        a turn: the same, of what arrived in it; a line that is not written does not stop what is told
+--   Unread a             a read failed
+--   Goes run a ..        the code's step: state and place are those of the arrival a
+--   Takes run a ..       so are stop and line; a failed read is told, and nothing else is
+--   Turned run ..        a turn: the same, of what arrived in it, which are the bytes that the reader gave; unless the write
+--                        failed the writer got the line
 --   Ran r                a whole run: some arrivals lead from the start to its state, and unless a write failed or the turns
 --                        were spent the run stopped there
 --   delivered xs         the bytes of the deck that arrived
@@ -16,28 +20,38 @@
 --   Played i i' o o' r   the same, of what a reader had left before and after and what a writer held: the arrivals are the bytes
 --                        that the reader gave; unless a write failed the writer got the text printed; a failed read is told, and
 --                        nothing else is told as one; and only a run that goes on has its turns spent
-use Rattle.std.specs.Prelude.{ℕ, ◌+◌, Bool, true, false, cond, List, [], ◌∷◌, ◌++◌, Option, ◌≡◌, ◌↔◌, take}
+use Rattle.std.specs.Prelude.{ℕ, ◌+◌, Bool, true, false, List, [], ◌∷◌, ◌++◌, Option, Some, Result, Ok, Err, ◌≡◌, ◌↔◌, codes}
 use Rattle.std.specs.Io.KnownBytes.{Consumes, Appends}
 use Rattle.decks.specs.declared.Deck.{Deck}
 use Rattle.lines.specs.Text.{line, end_word}
 use Rattle.decks.specs.Deck.{body_length, fresh}
 use Rattle.decks.specs.DeckLaws.{Stepped, stepped}
-use Rattle.lines.specs.Buffer.{Begins}
+use Rattle.stream.specs.declared.Stop.TheVariants.{Ended, Failed}
 use Rattle.stream.specs.declared.Arrival.{Arrival}
-use Rattle.stream.specs.Arrival.{Arrives, bytes_of}
+use Rattle.stream.specs.declared.Arrival.TheVariants.{Whole, Cut, Nothing}
+use Rattle.stream.specs.Arrival.{Arrives, bytes_of, stop_of}
+use Rattle.deck.specs.declared.Failure.{Failure}
+use Rattle.deck.specs.declared.Failure.TheVariants.{Read, Write, Records}
 use Rattle.deck.specs.declared.Run.{Run}
-use Rattle.deck.specs.declared.Going.{Going}
-use Rattle.deck.specs.declared.Progress.{Progress}
 use Rattle.deck.specs.declared.Ending.{Ending}
 
+abbrev pub message : Failure → List ℕ
+message Read = codes "deck: reading failed"
+message Write = codes "deck: writing failed"
+message Records = codes "deck: too many records"
+
 unfoldable pub told : Deck → ℕ → Arrival → Stepped
-told d offset a =
-    cond a.failed (record { state = d; text = []; halt = true })
-    (cond a.found (stepped d a.kind (take a.count a.body) offset)
-    (record { state = d; text = line end_word []; halt = true }))
+told d offset (Whole r) = stepped d r.kind r.body.items offset
+told d offset (Cut r Ended) = stepped d r.kind r.body.items offset
+told d offset (Cut r Failed) = record { state = d; text = []; halt = true }
+told d offset (Nothing Ended) = record { state = d; text = line end_word []; halt = true }
+told d offset (Nothing Failed) = record { state = d; text = []; halt = true }
 
 unfoldable pub past : Arrival → ℕ
-past a = cond a.failed 0 (cond a.found (1 + body_length a.kind) 0)
+past (Whole r) = 1 + body_length r.kind
+past (Cut r Ended) = 1 + body_length r.kind
+past (Cut r Failed) = 0
+past (Nothing stop) = 0
 
 pub record Place : Type 0 where
   pub state : Deck
@@ -61,22 +75,38 @@ unfoldable pub Turns : Place → List Arrival → Place → Type 0
 Turns w [] v = w ≡ v
 Turns w (a ∷ xs) v = (w.halt ≡ false) × Arrives a × Turns (on w a) xs v
 
-pub record Goes (run : Run) (a : Arrival) (out : List ℕ) (r : Going) (after : List ℕ) : Type 0 where
-  pub state : r.run.state ≡ (told run.state run.offset a).state
-  pub offset : r.run.offset ≡ run.offset + past a
-  pub halt : r.run.halt ≡ (told run.state run.offset a).halt
-  pub line : Begins out (told run.state run.offset a).text after r.length
+abbrev pub Unread : Arrival → Type 0
+Unread a = stop_of a ≡ Some Failed
 
-pub record Turned (run : Run) (out : List ℕ) (r : Progress) (after : List ℕ) : Type 0 where
-  pub arrived : Arrives r.arrival
-  pub goes : Goes run r.arrival out (record { run = r.run; length = r.length }) after
+pub record Goes (run : Run) (a : Arrival) (run' : Run) : Type 0 where
+  pub state : run'.deck.state ≡ (told run.deck.state run.offset a).state
+  pub offset : run'.offset ≡ run.offset + past a
+
+pub record Takes (run : Run) (a : Arrival) (run' : Run) (text : List ℕ) (r : Result Bool Failure) : Type 0 where
+  pub goes : Goes run a run'
+  pub halt : (stops : Bool) → r ≡ Ok stops → stops ≡ (told run.deck.state run.offset a).halt
+  pub line : (stops : Bool) → r ≡ Ok stops → text ≡ (told run.deck.state run.offset a).text
+  pub unread : (r ≡ Err Read) ↔ Unread a
+  pub only : r ≡ Err Write → ⊥
+  pub lasts : r ≡ Err Records → ⊥
+
+pub record Turned (run : Run) (input input' output output' : Option (List ℕ)) (run' : Run) (text : List ℕ) (r : Result Bool Failure) : Type 0 where
+  pub arrival : Arrival
+  pub arrived : Arrives arrival
+  pub goes : Goes run arrival run'
+  pub halt : (stops : Bool) → r ≡ Ok stops → stops ≡ (told run.deck.state run.offset arrival).halt
+  pub line : (r ≡ Err Read → ⊥) → text ≡ (told run.deck.state run.offset arrival).text
+  pub read : Consumes input input' (bytes_of arrival)
+  pub printed : (r ≡ Err Write → ⊥) → Appends output output' (told run.deck.state run.offset arrival).text
+  pub unread : (r ≡ Err Read) ↔ Unread arrival
+  pub lasts : r ≡ Err Records → ⊥
 
 pub record Ran (r : Ending) : Type 0 where
   pub arrivals : List Arrival
   pub last : Place
   pub turns : Turns start arrivals last
-  pub state : r.run.state ≡ last.state
-  pub stopped : r.unwritten ≡ false → r.spent ≡ false → last.halt ≡ true
+  pub state : r.state ≡ last.state
+  pub stopped : (r.result ≡ Err Write → ⊥) → (r.result ≡ Err Records → ⊥) → last.halt ≡ true
 
 unfoldable pub delivered : List Arrival → List ℕ
 delivered [] = []
@@ -84,11 +114,11 @@ delivered (a ∷ xs) = bytes_of a ++ delivered xs
 
 unfoldable pub Unfailed : List Arrival → Type 0
 Unfailed [] = Unit {0}
-Unfailed (a ∷ xs) = (a.failed ≡ false) × Unfailed xs
+Unfailed (a ∷ xs) = (Unread a → ⊥) × Unfailed xs
 
 pub record Played (input input' output output' : Option (List ℕ)) (r : Ending) : Type 0 where
   pub ran : Ran r
   pub read : Consumes input input' (delivered ran.arrivals)
-  pub printed : r.unwritten ≡ false → Appends output output' ran.last.text
-  pub unread : (r.unread ≡ false) ↔ Unfailed ran.arrivals
-  pub spent : r.spent ≡ true → ran.last.halt ≡ false
+  pub printed : (r.result ≡ Err Write → ⊥) → Appends output output' ran.last.text
+  pub unread : (r.result ≡ Err Read → ⊥) ↔ Unfailed ran.arrivals
+  pub spent : r.result ≡ Err Records → ran.last.halt ≡ false

@@ -1,23 +1,26 @@
 -- Laws of runs.
 --
---   goes_failed, goes_end, goes_step   what the code does with an arrival, by its three kinds
---   told_fit                           a state that is fit stays so, whatever arrives
---   past_low                           the next record begins 8 bytes further on at most
---   turns_snoc                         one turn more
---   Stands run                         some arrivals lead from the start to where the run stands, and it goes on
---   stands-start, stands_on            before the first record, and after a turn that does not stop it
---   ran_stopped, ran_spent             a whole run, ended by its last turn or by the number of turns
---   Keeps .. run                       where the run stands, beside what was read and written on the way
---   keeps_start, keeps_on              before the first record, and after a turn that does not stop it
---   played_stopped, played_spent       a whole run, beside what was read and written in it
---   turns-deck                         a run that stopped is the definition's run of the bytes that arrived: the text that it
---                                      printed, and the state it left
---   played-deck                        so is a run over bytes in memory: what it took of them, what it wrote, and its state
+--   takes_unread, takes_end,
+--   takes_whole, takes_cut                what the code does with an arrival, by its kinds
+--   turned_unread                         a turn in which a read failed
+--   told_fit                              a state that is fit stays so, whatever arrives
+--   told_unread                           a failed read stops the run
+--   past_low                              the next record begins 8 bytes further on at most
+--   turns_snoc                            one turn more
+--   Stands run                            some arrivals lead from the start to where the run stands, and it goes on
+--   stands-start, stands_on               before the first record, and after a turn that does not stop it
+--   ran_stopped, ran_failed, ran_spent    a whole run, ended by its last turn or by the number of turns
+--   Keeps .. run                          where the run stands, beside what was read and written on the way
+--   keeps_start, keeps_on                 before the first record, and after a turn that does not stop it
+--   played_stopped, played_failed,
+--   played_spent                          a whole run, beside what was read and written in it
+--   turns-deck                            a run that stopped is the definition's run of the bytes that arrived: the text that it
+--                                         printed, and the state it left
+--   played-deck                           so is a run over bytes in memory: what it took of them, what it wrote, and its state
 use Rattle.stream.proofs.Bytes.{consumes_none, consumes_more, appends_none, appends_more}
 use Rattle.std.specs.Io.KnownBytes.{Consumes, Appends}
-use Rattle.std.specs.Prelude.{Option, Some, ℕ, zero, suc, ◌+◌, ◌≤◌, ◌<◌, Bool, cond, not, ◌||◌, ◌≡◌}
-use Rattle.std.proofs.Common.{arith, ◌∙◌, subst, length-take-le}
-use borrow.Author.Tests.{not-false}
+use Rattle.std.specs.Prelude.{Option, Some, Result, Ok, Err, ℕ, zero, suc, ◌+◌, ◌≤◌, ◌<◌, Bool, ◌≡◌}
+use Rattle.std.proofs.Common.{arith, ◌∙◌, subst}
 use Rattle.std.proofs.Math.Decide.{ℕ_discrete}
 use Rattle.std.proofs.Math.Bool.{true, false}
 use mathlib.Core.List.{List, [], ◌∷◌, ◌++◌, append_assoc, append-nil}
@@ -25,65 +28,112 @@ use Rattle.std.proofs.Math.Path.{refl, sym, ap, ap₂}
 use Rattle.std.proofs.Math.ListN.{length, take, drop, length-append}
 use Rattle.std.proofs.Math.Seq.{take_all, take-append_seam, drop-append_seam}
 use Rattle.decks.specs.declared.Deck.{Deck}
-use Rattle.decks.specs.declared.Step.{Step}
 use Rattle.lines.specs.Text.{line, end_word}
 use Rattle.decks.specs.Deck.{body_length, deck_number, Outcome, before, halted, deck, fresh}
 use Rattle.decks.specs.DeckLaws.{Stepped, stepped, stepped_refused, follow, stepping, deck-stepping}
-use Rattle.lines.specs.Buffer.{Begins}
 use Rattle.decks.specs.Refusal.{passed, whole_body}
 use Rattle.decks.specs.State.{Fit}
 use Rattle.decks.specs.Step.{Steps}
 use Rattle.decks.specs.StepLaws.{stepped_fit, body_low}
+use Rattle.stream.specs.declared.Record.{Record}
+use Rattle.stream.specs.declared.Stop.TheVariants.{Ended, Failed}
 use Rattle.stream.specs.declared.Arrival.{Arrival}
+use Rattle.stream.specs.declared.Arrival.TheVariants.{Whole, Cut, Nothing}
 use Rattle.stream.specs.Arrival.{Arrives, bytes_of}
+use Rattle.deck.specs.declared.Failure.{Failure}
+use Rattle.deck.specs.declared.Failure.TheVariants.{Read, Write, Records}
 use Rattle.deck.specs.declared.Run.{Run}
-use Rattle.deck.specs.declared.Progress.{Progress}
 use Rattle.deck.specs.declared.Ending.{Ending}
-use Rattle.deck.specs.Run.{told, past, Place, start, on, Turns, Goes, Turned, Ran, delivered, Unfailed, Played}
+use Rattle.deck.specs.Run.{told, past, Place, start, on, Turns, Unread, Takes, Turned, Ran, delivered, Unfailed, Played}
 
 clash : {X : Type 0} {t : Bool} → t ≡ true → t ≡ false → X
 clash p q = let z : ◌≡◌ {A = ℕ} 0 1 = cc in absurd (omega arith)
 
-module _ (run : Run) (a : Arrival) (out : List ℕ) where
-  pub goes_failed : a.failed ≡ true → Goes run a out (record { run = record { state = run.state; offset = run.offset; halt = true }; length = 0 }) out
+module _ (run : Run) where
+  pub takes_unread : (a : Arrival) (text : List ℕ) → Unread a → Takes run a run text (Err Read)
   unfolding told past
-  goes_failed f = record { state = rw f refl; offset = rw f (omega arith); halt = rw f refl; line = rw f (record { text = refl; next = refl }) }
+  takes_unread (Whole r) text u = cc
+  takes_unread (Cut r Ended) text u = cc
+  takes_unread (Cut r Failed) text u = record { goes = record { state = refl; offset = omega arith }; halt = λ stops e. cc; line = λ stops e. cc; unread = (λ _. u, λ _. refl); only = λ e. cc; lasts = λ e. cc }
+  takes_unread (Nothing Ended) text u = cc
+  takes_unread (Nothing Failed) text u = record { goes = record { state = refl; offset = omega arith }; halt = λ stops e. cc; line = λ stops e. cc; unread = (λ _. u, λ _. refl); only = λ e. cc; lasts = λ e. cc }
 
-  pub goes_end : (after : List ℕ) (k : ℕ) → a.failed ≡ false → a.found ≡ false → Begins out (line end_word []) after k
-      → Goes run a out (record { run = record { state = run.state; offset = run.offset; halt = true }; length = k }) after
+  pub takes_end : (a : Arrival) (text : List ℕ) → a ≡ Nothing Ended → text ≡ line end_word [] → Takes run a run text (Ok true)
   unfolding told past
-  goes_end after k f n b = record { state = rw (f, n) refl; offset = rw (f, n) (omega arith); halt = rw (f, n) refl; line = rw (f, n) b }
+  takes_end a text n e = rw n (record { goes = record { state = refl; offset = omega arith }; halt = λ stops e. cc; line = λ stops _. e; unread = (λ e. cc, λ e. cc); only = λ e. cc; lasts = λ e. cc })
 
-  pub goes_step : (after : List ℕ) (s : Step) (k : ℕ) → a.failed ≡ false → a.found ≡ true → k ≡ body_length a.kind
-      → Steps (stepped run.state a.kind (take a.count a.body) run.offset) out s after
-      → Goes run a out (record { run = record { state = s.state; offset = run.offset + 1 + k; halt = s.halt }; length = s.length }) after
-  unfolding told past
-  goes_step after s k f n q g = record {
-    state = rw (f, n) g.state;
-    offset = rw (f, n) (omega (arith, q));
-    halt = rw (f, n) g.halt;
-    line = rw (f, n) g.line;
-  }
+  module _ (run' : Run) (r : Record) (text : List ℕ) (stops : Bool) (s : Steps (stepped run.deck.state r.kind r.body.items run.offset) run'.deck.state stops text)
+      (o : run'.offset ≡ run.offset + (1 + body_length r.kind)) where
+    pub takes_whole : (a : Arrival) → a ≡ Whole r → Takes run a run' text (Ok stops)
+    unfolding told past
+    takes_whole a e = rw e (record {
+      goes = record { state = s.state; offset = o };
+      halt = λ n e. let same : n ≡ stops = cc in same ∙ s.halted;
+      line = λ _ _. s.line;
+      unread = (λ e. cc, λ e. cc);
+      only = λ e. cc;
+      lasts = λ e. cc;
+    })
+
+    pub takes_cut : (a : Arrival) → a ≡ Cut r Ended → Takes run a run' text (Ok stops)
+    unfolding told past
+    takes_cut a e = rw e (record {
+      goes = record { state = s.state; offset = o };
+      halt = λ n e. let same : n ≡ stops = cc in same ∙ s.halted;
+      line = λ _ _. s.line;
+      unread = (λ e. cc, λ e. cc);
+      only = λ e. cc;
+      lasts = λ e. cc;
+    })
+
+pub told_unread : (d : Deck) (offset : ℕ) (a : Arrival) → Unread a → (told d offset a).halt ≡ true
+unfolding told
+told_unread d offset (Whole r) u = cc
+told_unread d offset (Cut r Ended) u = cc
+told_unread d offset (Cut r Failed) u = refl
+told_unread d offset (Nothing Ended) u = cc
+told_unread d offset (Nothing Failed) u = refl
+
+told_nothing : (d : Deck) (offset : ℕ) (a : Arrival) → Unread a → (told d offset a).text ≡ []
+unfolding told
+told_nothing d offset (Whole r) u = cc
+told_nothing d offset (Cut r Ended) u = cc
+told_nothing d offset (Cut r Failed) u = refl
+told_nothing d offset (Nothing Ended) u = cc
+told_nothing d offset (Nothing Failed) u = refl
+
+pub turned_unread : (run run' : Run) (a : Arrival) (text : List ℕ) (f : Failure) (input input' output : Option (List ℕ)) → Takes run a run' text (Err f) → Arrives a
+    → Consumes input input' (bytes_of a) → Turned run input input' output output run' text (Err f)
+turned_unread run run' a text Read input input' output t here bytes =
+    let u : Unread a = t.unread.0 refl in
+    record {
+      arrival = a;
+      arrived = here;
+      goes = t.goes;
+      halt = λ stops e. cc;
+      line = λ n. absurd (n refl);
+      read = bytes;
+      printed = λ _. subst (λ (s : List ℕ). Appends output output s) (sym (told_nothing run.deck.state run.offset a u)) (appends_none output);
+      unread = (λ _. u, λ _. refl);
+      lasts = λ e. cc;
+    }
+turned_unread run run' a text Write input input' output t here bytes = absurd (t.only refl)
+turned_unread run run' a text Records input input' output t here bytes = absurd (t.lasts refl)
 
 pub told_fit : (d : Deck) (offset : ℕ) (a : Arrival) → Fit d → Fit (told d offset a).state
 unfolding told
-told_fit d offset a fit = go a.failed a.found
-  where
-    go : (f n : Bool)
-        → Fit (cond f (record { state = d; text = []; halt = true })
-        (cond n (stepped d a.kind (take a.count a.body) offset) (record { state = d; text = line end_word []; halt = true }))).state
-    go true n = fit
-    go false true = stepped_fit d a.kind (take a.count a.body) offset fit
-    go false false = fit
+told_fit d offset (Whole r) fit = stepped_fit d r.kind r.body.items offset fit
+told_fit d offset (Cut r Ended) fit = stepped_fit d r.kind r.body.items offset fit
+told_fit d offset (Cut r Failed) fit = fit
+told_fit d offset (Nothing Ended) fit = fit
+told_fit d offset (Nothing Failed) fit = fit
 
 pub past_low : (a : Arrival) → past a ≤ 8
 unfolding past
-past_low a = go a.failed a.found (body_low a.kind)
-  where
-    go : (f n : Bool) → body_length a.kind ≤ 7 → cond f 0 (cond n (1 + body_length a.kind) 0) ≤ 8
-    go true n l = omega arith
-    go false true l = omega arith
-    go false false l = omega arith
+past_low (Whole r) = omega (arith, body_low r.kind)
+past_low (Cut r Ended) = omega (arith, body_low r.kind)
+past_low (Cut r Failed) = omega arith
+past_low (Nothing stop) = omega arith
 
 pub turns_snoc : (w : Place) (xs : List Arrival) (v : Place) (a : Arrival) → Turns w xs v → v.halt ≡ false → Arrives a → Turns w (xs ++ a ∷ []) (on v a)
 unfolding Turns
@@ -94,55 +144,57 @@ pub record Stands (run : Run) : Type 0 where
   pub arrivals : List Arrival
   pub place : Place
   pub turns : Turns start arrivals place
-  pub state : run.state ≡ place.state
+  pub state : run.deck.state ≡ place.state
   pub offset : run.offset ≡ place.offset
   pub going : place.halt ≡ false
 
-pub stands-start : (run : Run) → run.state ≡ fresh → run.offset ≡ 0 → Stands run
+pub stands-start : (run : Run) → run.deck.state ≡ fresh → run.offset ≡ 0 → Stands run
 unfolding start Turns
 stands-start run s o = record { arrivals = []; place = start; turns = refl; state = s; offset = o; going = refl }
 
-module _ (run : Run) (out : List ℕ) (r : Progress) (after : List ℕ) (before : Stands run) (t : Turned run out r after) where
+module _ (run : Run) (i' i'' o' o'' : Option (List ℕ)) (run' : Run) (text : List ℕ) (r : Result Bool Failure) (before : Stands run) (t : Turned run i' i'' o' o'' run' text r) where
   next : Place
-  next = on before.place r.arrival
+  next = on before.place t.arrival
 
-  next-turns : Turns start (before.arrivals ++ r.arrival ∷ []) next
+  next-turns : Turns start (before.arrivals ++ t.arrival ∷ []) next
   unfolding next
-  next-turns = turns_snoc start before.arrivals before.place r.arrival before.turns before.going t.arrived
+  next-turns = turns_snoc start before.arrivals before.place t.arrival before.turns before.going t.arrived
 
-  next-told : told run.state run.offset r.arrival ≡ told before.place.state before.place.offset r.arrival
-  next-told = ap₂ (λ (d : Deck) (o : ℕ). told d o r.arrival) before.state before.offset
+  next-told : told run.deck.state run.offset t.arrival ≡ told before.place.state before.place.offset t.arrival
+  next-told = ap₂ (λ (d : Deck) (o : ℕ). told d o t.arrival) before.state before.offset
 
-  next-state : r.run.state ≡ next.state
+  next-state : run'.deck.state ≡ next.state
   unfolding next on
   next-state = t.goes.state ∙ ap (λ (s : Stepped). s.state) next-told
 
-  next-halt : r.run.halt ≡ next.halt
+  next-halt : (stops : Bool) → r ≡ Ok stops → stops ≡ next.halt
   unfolding next on
-  next-halt = t.goes.halt ∙ ap (λ (s : Stepped). s.halt) next-told
+  next-halt stops e = t.halt stops e ∙ ap (λ (s : Stepped). s.halt) next-told
 
-  next-offset : r.run.offset ≡ next.offset
+  next-offset : run'.offset ≡ next.offset
   unfolding next on
-  next-offset = t.goes.offset ∙ ap (λ (o : ℕ). o + past r.arrival) before.offset
+  next-offset = t.goes.offset ∙ ap (λ (o : ℕ). o + past t.arrival) before.offset
 
-  pub stands_on : (r.run.halt || not r.written) ≡ false → Stands r.run
-  stands_on h =
-      record { arrivals = _; place = next; turns = next-turns; state = next-state; offset = next-offset; going = sym next-halt ∙ first r.run.halt (not r.written) h }
+  next-unread : Unread t.arrival → next.halt ≡ true
+  unfolding next on
+  next-unread u = told_unread before.place.state before.place.offset t.arrival u
+
+  pub stands_on : r ≡ Ok false → Stands run'
+  stands_on e = record { arrivals = _; place = next; turns = next-turns; state = next-state; offset = next-offset; going = sym (next-halt false e) }
+
+  pub ran_stopped : r ≡ Ok true → Ran (record { state = run'.deck.state; result = Ok tt })
+  ran_stopped e = record { arrivals = _; last = next; turns = next-turns; state = next-state; stopped = λ _ _. sym (next-halt true e) }
+
+  pub ran_failed : (f : Failure) → r ≡ Err f → Ran (record { state = run'.deck.state; result = Err f })
+  ran_failed f e = record { arrivals = _; last = next; turns = next-turns; state = next-state; stopped = why f e }
     where
-      first : (a b : Bool) → (a || b) ≡ false → a ≡ false
-      first true b e = e
-      first false b e = refl
+      why : (f : Failure) → r ≡ Err f → (◌≡◌ {A = Result (Unit {0}) Failure} (Err f) (Err Write) → ⊥) → (◌≡◌ {A = Result (Unit {0}) Failure} (Err f) (Err Records) → ⊥) → next.halt ≡ true
+      why Read e a b = next-unread (t.unread.0 e)
+      why Write e a b = absurd (a refl)
+      why Records e a b = absurd (b refl)
 
-  pub ran_stopped : (r.run.halt || not r.written) ≡ true
-      → Ran (record { run = r.run; unread = r.arrival.failed; unwritten = not r.written; spent = false })
-  ran_stopped h = record { arrivals = _; last = next; turns = next-turns; state = next-state; stopped = λ w _. sym next-halt ∙ first r.run.halt (not r.written) h w }
-    where
-      first : (a b : Bool) → (a || b) ≡ true → b ≡ false → a ≡ true
-      first true b e w = refl
-      first false b e w = clash e w
-
-pub ran_spent : (run : Run) → Stands run → Ran (record { run = run; unread = false; unwritten = false; spent = true })
-ran_spent run s = record { arrivals = s.arrivals; last = s.place; turns = s.turns; state = s.state; stopped = λ _ e. clash refl e }
+pub ran_spent : (run : Run) → Stands run → Ran (record { state = run.deck.state; result = Err Records })
+ran_spent run s = record { arrivals = s.arrivals; last = s.place; turns = s.turns; state = s.state; stopped = λ _ b. absurd (b refl) }
 
 -- What was read and written on the way to where the run stands: the arrivals' bytes, and the text printed.
 delivered_snoc : (xs : List Arrival) (a : Arrival) → delivered (xs ++ a ∷ []) ≡ delivered xs ++ bytes_of a
@@ -150,24 +202,15 @@ unfolding delivered
 delivered_snoc [] a = append-nil (bytes_of a)
 delivered_snoc (x ∷ xs) a = ap (λ (t : List ℕ). bytes_of x ++ t) (delivered_snoc xs a) ∙ sym (append_assoc (bytes_of x) (delivered xs) (bytes_of a))
 
-unfailed_snoc : (xs : List Arrival) (a : Arrival) → Unfailed xs → a.failed ≡ false → Unfailed (xs ++ a ∷ [])
+unfailed_snoc : (xs : List Arrival) (a : Arrival) → Unfailed xs → (Unread a → ⊥) → Unfailed (xs ++ a ∷ [])
 unfolding Unfailed
 unfailed_snoc [] a u f = (f, tt)
 unfailed_snoc (x ∷ xs) a (e, u) f = (e, unfailed_snoc xs a u f)
 
-unfailed-last : (xs : List Arrival) (a : Arrival) → Unfailed (xs ++ a ∷ []) → a.failed ≡ false
+unfailed-last : (xs : List Arrival) (a : Arrival) → Unfailed (xs ++ a ∷ []) → Unread a → ⊥
 unfolding Unfailed
 unfailed-last [] a (f, u) = f
 unfailed-last (x ∷ xs) a (e, u) = unfailed-last xs a u
-
--- a run that goes on after an arrival had no failed read in it
-told_going : (d : Deck) (offset : ℕ) (a : Arrival) → (told d offset a).halt ≡ false → a.failed ≡ false
-unfolding told
-told_going d offset a g = go a.failed refl
-  where
-    go : (f : Bool) → a.failed ≡ f → a.failed ≡ false
-    go true e = clash (rw e refl) g
-    go false e = e
 
 pub record Keeps (input input' output output' : Option (List ℕ)) (run : Run) : Type 0 where
   pub stands : Stands run
@@ -175,67 +218,66 @@ pub record Keeps (input input' output output' : Option (List ℕ)) (run : Run) :
   pub printed : Appends output output' stands.place.text
   pub unfailed : Unfailed stands.arrivals
 
-pub keeps_start : (input output : Option (List ℕ)) (run : Run) → run.state ≡ fresh → run.offset ≡ 0 → Keeps input input output output run
+pub keeps_start : (input output : Option (List ℕ)) (run : Run) → run.deck.state ≡ fresh → run.offset ≡ 0 → Keeps input input output output run
 unfolding stands-start start delivered Unfailed
 keeps_start input output run s o = record { stands = stands-start run s o; read = consumes_none input; printed = appends_none output; unfailed = tt }
 
-module _ (run : Run) (out : List ℕ) (r : Progress) (after : List ℕ) (input input' input'' output output' output'' : Option (List ℕ))
-    (before : Keeps input input' output output' run) (t : Turned run out r after) (more : Consumes input' input'' (bytes_of r.arrival))
-    (wrote : r.written ≡ true → Appends output' output'' (take r.length after)) where
-  all-read : Consumes input input'' (delivered (before.stands.arrivals ++ r.arrival ∷ []))
-  all-read = rw (delivered_snoc before.stands.arrivals r.arrival) (consumes_more input input' input'' _ _ before.read more)
+module _ (run : Run) (i i' i'' o o' o'' : Option (List ℕ)) (run' : Run) (text : List ℕ) (r : Result Bool Failure)
+    (before : Keeps i i' o o' run) (t : Turned run i' i'' o' o'' run' text r) where
+  all-read : Consumes i i'' (delivered (before.stands.arrivals ++ t.arrival ∷ []))
+  all-read = rw (delivered_snoc before.stands.arrivals t.arrival) (consumes_more i i' i'' _ _ before.read t.read)
 
-  -- the line that was written is the arrival's text
-  line_text : take r.length after ≡ (told before.stands.place.state before.stands.place.offset r.arrival).text
-  line_text =
-      ap₂ take t.goes.line.next t.goes.line.text
-      ∙ take-append_seam (told run.state run.offset r.arrival).text (drop (length (told run.state run.offset r.arrival).text) out)
-      ∙ ap₂ (λ (d : Deck) (o : ℕ). (told d o r.arrival).text) before.stands.state before.stands.offset
-
-  all_printed : r.written ≡ true → Appends output output'' (on before.stands.place r.arrival).text
+  all_printed : (r ≡ Err Write → ⊥) → Appends o o'' (on before.stands.place t.arrival).text
   unfolding on
-  all_printed w = appends_more output output' output'' _ _ before.printed (subst (λ (s : List ℕ). Appends output' output'' s) line_text (wrote w))
+  all_printed w =
+      appends_more o o' o'' _ _ before.printed
+      (subst (λ (s : List ℕ). Appends o' o'' s)
+      (ap₂ (λ (d : Deck) (o : ℕ). (told d o t.arrival).text) before.stands.state before.stands.offset) (t.printed w))
 
-  pub keeps_on : (r.run.halt || not r.written) ≡ false → Keeps input input'' output output'' r.run
+  all-unfailed : (r ≡ Err Read → ⊥) → Unfailed (before.stands.arrivals ++ t.arrival ∷ [])
+  all-unfailed n = unfailed_snoc before.stands.arrivals t.arrival before.unfailed (λ u. n (t.unread.1 u))
+
+  pub keeps_on : r ≡ Ok false → Keeps i i'' o o'' run'
   unfolding stands_on next
-  keeps_on h = record {
-    stands = stands_on run out r after before.stands t h;
+  keeps_on e = record {
+    stands = stands_on run i' i'' o' o'' run' text r before.stands t e;
     read = all-read;
-    printed = all_printed (written r.run.halt r.written h);
-    unfailed =
-        unfailed_snoc before.stands.arrivals r.arrival before.unfailed
-        (told_going run.state run.offset r.arrival (sym t.goes.halt ∙ going r.run.halt (not r.written) h));
+    printed = all_printed (λ w. cc);
+    unfailed = all-unfailed (λ w. cc);
   }
-    where
-      going : (a b : Bool) → (a || b) ≡ false → a ≡ false
-      going true b e = e
-      going false b e = refl
 
-      written : (a b : Bool) → (a || not b) ≡ false → b ≡ true
-      written false true e = refl
-      written false false e = clash refl e
-      written true b e = clash refl e
-
-  pub played_stopped : (r.run.halt || not r.written) ≡ true
-      → Played input input'' output output'' (record { run = r.run; unread = r.arrival.failed; unwritten = not r.written; spent = false })
+  pub played_stopped : r ≡ Ok true → Played i i'' o o'' (record { state = run'.deck.state; result = Ok tt })
   unfolding ran_stopped next
-  played_stopped h = record {
-    ran = ran_stopped run out r after before.stands t h;
+  played_stopped e = record {
+    ran = ran_stopped run i' i'' o' o'' run' text r before.stands t e;
     read = all-read;
-    printed = λ u. all_printed (not-false _ u);
-    unread = (unfailed_snoc before.stands.arrivals r.arrival before.unfailed, unfailed-last before.stands.arrivals r.arrival);
-    spent = λ e. clash e refl;
+    printed = λ _. all_printed (λ w. cc);
+    unread = (λ _. all-unfailed (λ w. cc), λ _ w. cc);
+    spent = λ w. cc;
   }
 
-pub played_spent : (input input' output output' : Option (List ℕ)) (run : Run) → Keeps input input' output output' run
-    → Played input input' output output' (record { run = run; unread = false; unwritten = false; spent = true })
+  pub played_failed : (f : Failure) → r ≡ Err f → Played i i'' o o'' (record { state = run'.deck.state; result = Err f })
+  unfolding ran_failed next
+  played_failed f e = record {
+    ran = ran_failed run i' i'' o' o'' run' text r before.stands t f e;
+    read = all-read;
+    printed = λ n. all_printed (λ w. n (let same : f ≡ Write = cc in ap Err same));
+    unread = (
+      λ n. all-unfailed (λ w. n (let same : f ≡ Read = cc in ap Err same)),
+      λ u w. unfailed-last before.stands.arrivals t.arrival u (t.unread.0 (let same : f ≡ Read = cc in e ∙ ap Err same)),
+    );
+    spent = λ w. absurd (t.lasts (let same : f ≡ Records = cc in e ∙ ap Err same));
+  }
+
+pub played_spent : (i i' o o' : Option (List ℕ)) (run : Run) → Keeps i i' o o' run
+    → Played i i' o o' (record { state = run.deck.state; result = Err Records })
 unfolding ran_spent
-played_spent input input' output output' run k = record {
+played_spent i i' o o' run k = record {
   ran = ran_spent run k.stands;
   read = k.read;
-  printed = λ u. k.printed;
-  unread = (λ u. k.unfailed, λ u. refl);
-  spent = λ e. k.stands.going;
+  printed = λ _. k.printed;
+  unread = (λ _. k.unfailed, λ _ w. cc);
+  spent = λ _. k.stands.going;
 }
 
 -- no arrival comes after the run has stopped
@@ -269,27 +311,6 @@ going_whole d k body offset h =
 abbrev Same : Place → Place → Outcome → Type 0
 Same w v o = (v.text ≡ w.text ++ o.text) × (v.state ≡ o.state)
 
-module _ (d : Deck) (offset : ℕ) (a : Arrival) (read : a.failed ≡ false) where
-  told_end : a.found ≡ false → told d offset a ≡ record { state = d; text = line end_word []; halt = true }
-  unfolding told
-  told_end n = rw (read, n) refl
-
-  told_record : a.found ≡ true → told d offset a ≡ stepped d a.kind (take a.count a.body) offset
-  unfolding told
-  told_record n = rw (read, n) refl
-
-  past_record : a.found ≡ true → past a ≡ 1 + body_length a.kind
-  unfolding past
-  past_record n = rw (read, n) refl
-
-delivered_end : (a : Arrival) (xs : List Arrival) → a.found ≡ false → delivered (a ∷ xs) ≡ delivered xs
-unfolding delivered bytes_of
-delivered_end a xs n = rw n refl
-
-delivered_record : (a : Arrival) (xs : List Arrival) → a.found ≡ true → delivered (a ∷ xs) ≡ a.kind ∷ (take a.count a.body ++ delivered xs)
-unfolding delivered bytes_of
-delivered_record a xs n = rw n refl
-
 -- an arrival that stops the run is the last
 stop-same : (w : Place) (a : Arrival) (xs : List Arrival) (v : Place) (s : Stepped) (o : Outcome) → Turns (on w a) xs v → told w.state w.offset a ≡ s
     → s.halt ≡ true → (xs ≡ [] → o ≡ halted s.text s.state) → Same w v o
@@ -309,60 +330,69 @@ on_same w a v s o p e f (text, state) = (
   state ∙ sym (ap (λ (o : Outcome). o.state) f),
 )
 
-turns-stepping : (xs : List Arrival) (fuel : ℕ) (w v : Place) → Turns w xs v → v.halt ≡ true → w.halt ≡ false → Unfailed xs → length (delivered xs) < fuel
+-- an arrival that is stepped as a record of kind k with this body
+record Comes (w : Place) (a : Arrival) (k : ℕ) (body : List ℕ) : Type 0 where
+  tells : told w.state w.offset a ≡ stepped w.state k body w.offset
+  passes : past a ≡ 1 + body_length k
+  gives : bytes_of a ≡ k ∷ body
+  few : length body ≤ body_length k
+
+-- the rest of a run, from any place
+abbrev Rest : List Arrival → Type 0
+Rest xs = (fuel : ℕ) (w v : Place) → Turns w xs v → v.halt ≡ true → w.halt ≡ false → Unfailed xs → length (delivered xs) < fuel
     → Same w v (stepping fuel w.offset w.state (delivered xs))
-unfolding Turns Unfailed
-turns-stepping [] fuel w v t h g u l = clash (ap (λ (w : Place). w.halt) t ∙ h) g
-turns-stepping (a ∷ xs) zero w v t h g u l = absurd (omega arith)
-turns-stepping (a ∷ xs) (suc fuel) w v (_, r, t) h g (read, u) l = by_found a.found refl (turns-stepping xs)
-  where
-    body : List ℕ
-    body = take a.count a.body
 
+module _ (xs : List Arrival) (fuel : ℕ) (w v : Place) where
+  module _ (a : Arrival) (k : ℕ) (body : List ℕ) (c : Comes w a k body) (t : Turns (on w a) xs v) (h : v.halt ≡ true) (u : Unfailed xs)
+      (l : length (delivered (a ∷ xs)) < suc fuel) where
     s : Stepped
-    s = stepped w.state a.kind body w.offset
+    s = stepped w.state k body w.offset
 
-    held : length body ≡ a.count
-    held = length-take-le a.count a.body (omega (arith, r.few, r.held, body_low a.kind))
+    arrives : (ys : List Arrival) → delivered (a ∷ ys) ≡ k ∷ (body ++ delivered ys)
+    unfolding delivered
+    arrives ys = ap (λ (l : List ℕ). l ++ delivered ys) c.gives
 
-    Rest : Type 0
-    Rest = (fuel : ℕ) (w v : Place) → Turns w xs v → v.halt ≡ true → w.halt ≡ false → Unfailed xs → length (delivered xs) < fuel
-        → Same w v (stepping fuel w.offset w.state (delivered xs))
-
-    Goal : Type 0
-    Goal = Same w v (stepping (suc fuel) w.offset w.state (delivered (a ∷ xs)))
-
-    by-halt : a.found ≡ true → Rest → (q : Bool) → s.halt ≡ q → Goal
-    by-halt n ih true q =
+    record_same : Rest xs → (q : Bool) → s.halt ≡ q → Same w v (stepping (suc fuel) w.offset w.state (delivered (a ∷ xs)))
+    unfolding s
+    record_same ih true q =
         let bare : body ++ delivered [] ≡ body = unfold delivered in append-nil body in
-        let cut : take (body_length a.kind) (body ++ delivered []) ≡ body =
-        ap (take (body_length a.kind)) bare ∙ take_all (body_length a.kind) body (omega (arith, held, r.few)) in
-        stop-same w a xs v s _ t (told_record w.state w.offset a read n) q
-        (λ none. ap (stepping (suc fuel) w.offset w.state) (delivered_record a xs n ∙ ap (λ (xs : List Arrival). a.kind ∷ (body ++ delivered xs)) none)
-        ∙ stepping_stop fuel w.offset w.state a.kind body (delivered []) cut q)
-    by-halt n ih false q =
-        let told-s = told_record w.state w.offset a read n in
-        let whole : length body ≡ body_length a.kind = omega (arith, held, r.few, going_whole w.state a.kind body w.offset q) in
-        let cut : take (body_length a.kind) (body ++ delivered xs) ≡ body =
-        ap (λ (k : ℕ). take k (body ++ delivered xs)) (sym whole) ∙ take-append_seam body (delivered xs) in
-        let left : drop (body_length a.kind) (body ++ delivered xs) ≡ delivered xs =
-        ap (λ (k : ℕ). drop k (body ++ delivered xs)) (sym whole) ∙ drop-append_seam body (delivered xs) in
-        let next : w.offset + 1 + body_length a.kind ≡ (on w a).offset = unfold on in omega (arith, past_record w.state w.offset a read n) in
-        let state : s.state ≡ (on w a).state = unfold on in sym (ap (λ (s : Stepped). s.state) told-s) in
-        let going : (on w a).halt ≡ false = unfold on in ap (λ (s : Stepped). s.halt) told-s ∙ q in
-        on_same w a v s (stepping (suc fuel) w.offset w.state (delivered (a ∷ xs))) (stepping fuel (on w a).offset (on w a).state (delivered xs)) told-s
-        (ap (stepping (suc fuel) w.offset w.state) (delivered_record a xs n)
-        ∙ stepping-on fuel w.offset w.state a.kind body (delivered xs) cut q left
+        let cut : take (body_length k) (body ++ delivered []) ≡ body =
+        ap (take (body_length k)) bare ∙ take_all (body_length k) body c.few in
+        stop-same w a xs v s _ t c.tells q
+        (λ none. ap (stepping (suc fuel) w.offset w.state) (arrives xs ∙ ap (λ (xs : List Arrival). k ∷ (body ++ delivered xs)) none)
+        ∙ stepping_stop fuel w.offset w.state k body (delivered []) cut q)
+    record_same ih false q =
+        let whole : length body ≡ body_length k = omega (arith, c.few, going_whole w.state k body w.offset q) in
+        let cut : take (body_length k) (body ++ delivered xs) ≡ body =
+        ap (λ (n : ℕ). take n (body ++ delivered xs)) (sym whole) ∙ take-append_seam body (delivered xs) in
+        let left : drop (body_length k) (body ++ delivered xs) ≡ delivered xs =
+        ap (λ (n : ℕ). drop n (body ++ delivered xs)) (sym whole) ∙ drop-append_seam body (delivered xs) in
+        let next : w.offset + 1 + body_length k ≡ (on w a).offset = unfold on in omega (arith, c.passes) in
+        let state : s.state ≡ (on w a).state = unfold on in sym (ap (λ (s : Stepped). s.state) c.tells) in
+        let going : (on w a).halt ≡ false = unfold on in ap (λ (s : Stepped). s.halt) c.tells ∙ q in
+        on_same w a v s (stepping (suc fuel) w.offset w.state (delivered (a ∷ xs))) (stepping fuel (on w a).offset (on w a).state (delivered xs)) c.tells
+        (ap (stepping (suc fuel) w.offset w.state) (arrives xs)
+        ∙ stepping-on fuel w.offset w.state k body (delivered xs) cut q left
         ∙ ap₂ (λ (o : ℕ) (d : Deck). before s.text (stepping fuel o d (delivered xs))) next state)
         (ih fuel (on w a) v t h going u
-        (omega (arith, l, ap length (delivered_record a xs n), length-append body (delivered xs))))
+        (omega (arith, l, ap length (arrives xs), length-append body (delivered xs))))
 
-    by_found : (n : Bool) → a.found ≡ n → Rest → Goal
-    by_found false n ih =
-        let end : stepping (suc fuel) w.offset w.state (delivered []) ≡ halted (line end_word []) w.state = unfold stepping delivered in refl in
-        stop-same w a xs v _ _ t (told_end w.state w.offset a read n) refl
-        (λ none. ap (stepping (suc fuel) w.offset w.state) (delivered_end a xs n ∙ ap delivered none) ∙ end)
-    by_found true n ih = by-halt n ih s.halt refl
+turns-stepping : (xs : List Arrival) (fuel : ℕ) (w v : Place) → Turns w xs v → v.halt ≡ true → w.halt ≡ false → Unfailed xs → length (delivered xs) < fuel
+    → Same w v (stepping fuel w.offset w.state (delivered xs))
+unfolding Turns Unfailed told past
+turns-stepping [] fuel w v t h g u l = clash (ap (λ (w : Place). w.halt) t ∙ h) g
+turns-stepping (a ∷ xs) zero w v t h g u l = absurd (omega arith)
+turns-stepping (Whole r ∷ xs) (suc fuel) w v (_, e, t) h g (read, u) l =
+    record_same xs fuel w v (Whole r) r.kind r.body.items (record { tells = refl; passes = refl; gives = refl; few = omega (arith, e) }) t h u l (turns-stepping xs) _ refl
+turns-stepping (Cut r Ended ∷ xs) (suc fuel) w v (_, e, t) h g (read, u) l =
+    record_same xs fuel w v (Cut r Ended) r.kind r.body.items (record { tells = refl; passes = refl; gives = refl; few = omega (arith, e) }) t h u l (turns-stepping xs) _ refl
+turns-stepping (Cut r Failed ∷ xs) (suc fuel) w v t h g (read, u) l = absurd (read refl)
+turns-stepping (Nothing Ended ∷ xs) (suc fuel) w v (_, e, t) h g (read, u) l =
+    let end : stepping (suc fuel) w.offset w.state (delivered []) ≡ halted (line end_word []) w.state = unfold stepping delivered in refl in
+    let none : delivered (Nothing Ended ∷ xs) ≡ delivered xs = unfold delivered in refl in
+    stop-same w (Nothing Ended) xs v _ _ t refl refl
+    (λ bare. ap (stepping (suc fuel) w.offset w.state) (none ∙ ap delivered bare) ∙ end)
+turns-stepping (Nothing Failed ∷ xs) (suc fuel) w v t h g (read, u) l = absurd (read refl)
 
 pub turns-deck : (xs : List Arrival) (v : Place) → Turns start xs v → v.halt ≡ true → Unfailed xs
     → (v.text ≡ (deck (delivered xs)).text) × (v.state ≡ (deck (delivered xs)).state)
@@ -371,8 +401,8 @@ turns-deck xs v t h u =
     rw (← deck-stepping (suc (length (delivered xs))) (delivered xs) (omega arith))
     (turns-stepping xs (suc (length (delivered xs))) start v t h refl u (omega arith))
 
-pub played-deck : (xs ys held now : List ℕ) (r : Ending) → Played (Some xs) (Some ys) (Some held) (Some now) r → r.unread ≡ false → r.unwritten ≡ false
-    → r.spent ≡ false → (bs : List ℕ) × (xs ≡ bs ++ ys) × (now ≡ held ++ (deck bs).text) × (r.run.state ≡ (deck bs).state)
-played-deck xs ys held now r p read written going =
-    let run = turns-deck p.ran.arrivals p.ran.last p.ran.turns (p.ran.stopped written going) (p.unread.0 read) in
-    (delivered p.ran.arrivals, p.read, p.printed written ∙ ap (λ (t : List ℕ). held ++ t) run.0, p.ran.state ∙ run.1)
+pub played-deck : (xs ys held now : List ℕ) (r : Ending) → Played (Some xs) (Some ys) (Some held) (Some now) r → r.result ≡ Ok tt
+    → (bs : List ℕ) × (xs ≡ bs ++ ys) × (now ≡ held ++ (deck bs).text) × (r.state ≡ (deck bs).state)
+played-deck xs ys held now r p fine =
+    let run = turns-deck p.ran.arrivals p.ran.last p.ran.turns (p.ran.stopped (λ e. cc) (λ e. cc)) (p.unread.0 (λ e. cc)) in
+    (delivered p.ran.arrivals, p.read, p.printed (λ e. cc) ∙ ap (λ (t : List ℕ). held ++ t) run.0, p.ran.state ∙ run.1)

@@ -1,161 +1,154 @@
 // The deck: records from standard input, a line for each answer to standard output.
 #![tactic(auto)]
 
-ghost use Rattle.std.specs.Prelude.{◌+◌, ◌^◌, ◌≤◌, ◌<◌, length, take, true, ◌≡◌};
-ghost use Rattle.std.specs.Io.KnownBytes.{Consumes, Appends};
-ghost use Rattle.decks.specs.State.{Fit};
-ghost use Rattle.stream.specs.Arrival.{Arrives, bytes_of};
-ghost use Rattle.deck.specs.Run.{Goes, Turned, Played};
+ghost use Rattle.std.specs.Prelude.{◌+◌, ◌^◌, ◌<◌, Some, ◌≡◌};
+ghost use Rattle.decks.specs.Deck.{body_length, fresh};
+ghost use Rattle.decks.specs.DeckLaws.{stepped};
+ghost use Rattle.decks.specs.Step.{Steps};
+ghost use Rattle.stream.specs.Arrival.{Arrives};
+ghost use Rattle.deck.specs.Run.{message, Takes, Turned, Played};
 
+use arrayvec::ArrayString;
 use decks::Deck;
-use decks::records::{body_length, fresh};
-use decks::steps::step;
-use lines::end_line;
-use std::io;
+use decks::records::body_length;
+use decks::steps::FitDeck;
+use lines::Line;
 use std::io::{Read, Write};
-use stream::{Arrival, complain, next_record, print};
+use std::{fmt, io};
+use stream::{Arrival, Record, Stop, next_record};
 
-// Where a run stands: the state, the place of the next record, and whether it has stopped.
+// A record takes 8 bytes at most, so that with these turns no offset wraps. No run that a machine can finish spends them.
+const TURNS: u64 = u64::MAX / 8;
+
+// The text of a line: none is longer.
+type Text = ArrayString<5707>;
+
+// What cuts a run short: a failed read, a failed write, or all its turns spent.
+#[derive(Clone, Copy, PartialEq, Eq, Debug)]
+enum Failure {
+    Read,
+    Write,
+    Records,
+}
+
+impl fmt::Display for Failure {
+    ghost output = { λ failure. Some (message failure) };
+
+    fn fmt<W: fmt::Write>(&self, f: &mut fmt::Formatter<W>) -> fmt::Result {
+        match self {
+            Failure::Read => f.write_str("deck: reading failed"),
+            Failure::Write => f.write_str("deck: writing failed"),
+            Failure::Records => f.write_str("deck: too many records"),
+        }
+    }
+}
+
+// Where a run stands: the state, and the place of the next record.
 #[derive(Clone, Copy)]
 struct Run {
-    state: Deck,
+    deck: FitDeck,
     offset: u64,
-    halt: bool,
 }
 
-// The run after an arrival, and how long the line at the start of the buffer is.
-#[derive(Clone, Copy)]
-struct Going {
-    run: Run,
-    length: usize,
-}
-
-// A turn: what arrived, where the run stands after it, and whether the line was written.
-#[derive(Clone, Copy)]
-struct Progress {
-    run: Run,
-    arrival: Arrival,
-    length: usize,
-    written: bool,
-}
-
-// Where a run ended: with a failed read, a failed write, all its turns spent, or as the deck says.
+// Where a run ended: the state that it left, and what cut it short.
 #[derive(Clone, Copy)]
 struct Ending {
-    run: Run,
-    unread: bool,
-    unwritten: bool,
-    spent: bool,
+    state: Deck,
+    result: Result<(), Failure>,
 }
 
-// The run as it stands, stopped, with a line of this length.
-fn stopped(run: Run, length: usize) -> Going
-    ensures { result ≡ record { run = record { state = run.state; offset = run.offset; halt = true }; length = length } }
-{
-    let mut last = run;
-    last.halt = true;
-    Going { run: last, length }
+impl Run {
+    // The run before the first record.
+    fn new() -> Run
+        ensures { (result.deck.state ≡ fresh) × (result.offset ≡ 0) }
+    {
+        Run {
+            deck: FitDeck::new(),
+            offset: 0,
+        }
+    }
+
+    // A record, or what arrived of it before the input ended: its line, and whether the run stops after it.
+    fn step(&mut self, record: &Record, line: &mut Text) -> bool
+        requires { self.old.offset + 8 < 2 ^ 64 }
+        ensures steps { Steps (stepped self.old.deck.state record.now.kind record.now.body.items self.old.offset)
+            self.new.deck.state result line.new.bytes }
+        ensures offset { self.new.offset ≡ self.old.offset + (1 + body_length record.now.kind) }
+    {
+        let stops = self.deck.step(record.kind, &record.body, self.offset, line);
+        self.offset += 1 + body_length(record.kind) as u64;
+        stops
+    }
+
+    // What arrived, taken: its line, and whether the run stops after it. A failed read is told, and changes nothing.
+    fn take(&mut self, arrival: &Arrival, line: &mut Text) -> Result<bool, Failure>
+        requires arrives { Arrives arrival.now }
+        requires offset { self.old.offset + 8 < 2 ^ 64 }
+        ensures { Takes self.old arrival.now self.new line.new.bytes result }
+    {
+        match arrival {
+            Arrival::Whole(record) => Ok(self.step(record, line)),
+            Arrival::Cut(record, Stop::Ended) => Ok(self.step(record, line)),
+            Arrival::Nothing(Stop::Ended) => {
+                Line::End.write(line);
+                Ok(true)
+            }
+            Arrival::Cut(_, Stop::Failed) => Err(Failure::Read),
+            Arrival::Nothing(Stop::Failed) => Err(Failure::Read),
+        }
+    }
+
+    // The next record, or the end of input: read, taken, and its line printed. Whether the run stops after it.
+    fn turn<R: Read, W: Write>(
+        &mut self,
+        input: &mut R,
+        output: &mut W,
+        line: &mut Text,
+    ) -> Result<bool, Failure>
+        requires { self.old.offset + 8 < 2 ^ 64 }
+        ensures { Turned self.old (R.remaining input.old) (R.remaining input.new) (W.contents output.old) (W.contents output.new)
+            self.new line.new.bytes result }
+    {
+        let arrival = next_record(input);
+        let stops = self.take(&arrival, line)?;
+        match output.write_all(line.as_bytes()) {
+            Ok(()) => Ok(stops),
+            Err(_) => Err(Failure::Write),
+        }
+    }
+
+    // Turn after turn, until the run stops.
+    fn finish<R: Read, W: Write>(&mut self, input: &mut R, output: &mut W) -> Result<(), Failure>
+        requires { (self.old.deck.state ≡ fresh) × (self.old.offset ≡ 0) }
+        ensures { Played (R.remaining input.old) (R.remaining input.new) (W.contents output.old) (W.contents output.new)
+            (record { state = self.new.deck.state; result = result }) }
+    {
+        let mut line = ArrayString::new();
+        for _turn in 0..TURNS {
+            if self.turn(input, output, &mut line)? {
+                return Ok(());
+            }
+        }
+        Err(Failure::Records)
+    }
 }
 
-// What arrived, taken: a failed read and the end of input stop the run, and a record is stepped.
-fn go(run: Run, arrival: Arrival, line: &mut [u8]) -> Going
-    requires fit { Fit run.state }
-    requires offset_bound { run.offset + 8 < 2 ^ 64 }
-    requires arrives { Arrives arrival }
-    requires in_bounds { 5707 ≤ length line.old }
-    ensures { Goes run arrival line.old result line.new }
-{
-    if arrival.failed {
-        return stopped(run, 0);
-    }
-    if !arrival.found {
-        let length = end_line(line);
-        return stopped(run, length);
-    }
-    let body = arrival.body;
-    let count = arrival.count;
-    let before = run.state;
-    let after = step(before, arrival.kind, &body[..count], run.offset, line);
-    let state = after.state;
-    let next = Run {
-        state,
-        offset: run.offset + 1 + body_length(arrival.kind) as u64,
-        halt: after.halt,
-    };
-    Going {
-        run: next,
-        length: after.length,
-    }
-}
-
-// The next record, or the end of input: read, taken, and its line printed.
-fn turn<R: Read, W: Write>(input: &mut R, output: &mut W, run: Run, line: &mut [u8]) -> Progress
-    requires fit { Fit run.state }
-    requires offset_bound { run.offset + 8 < 2 ^ 64 }
-    requires in_bounds { 5707 ≤ length line.old }
-    ensures turned { Turned run line.old result line.new }
-    ensures read { Consumes (R.remaining input.old) (R.remaining input.new) (bytes_of result.arrival) }
-    ensures printed { result.written ≡ true →
-        Appends (W.contents output.old) (W.contents output.new) (take result.length line.new) }
-{
-    let arrival = next_record(input);
-    let going = go(run, arrival, line);
-    let length = going.length;
-    let written = print(output, &line[..length]);
-    let next = going.run;
-    Progress {
-        run: next,
-        arrival,
-        length,
-        written,
-    }
-}
-
-// A whole run. A record takes 8 bytes at most, so that with these turns no offset wraps.
+// A whole run.
 fn play<R: Read, W: Write>(input: &mut R, output: &mut W) -> Ending
     ensures { Played (R.remaining input.old) (R.remaining input.new) (W.contents output.old) (W.contents output.new) result }
 {
-    let mut line = [0u8; 8192];
-    let state = fresh();
-    let mut run = Run {
-        state,
-        offset: 0,
-        halt: false,
-    };
-    let mut turns = u64::MAX / 8;
-    while turns > 0 {
-        let done = turn(input, output, run, &mut line);
-        run = done.run;
-        if run.halt | !done.written {
-            let last = done.arrival;
-            return Ending {
-                run,
-                unread: last.failed,
-                unwritten: !done.written,
-                spent: false,
-            };
-        }
-        turns -= 1;
-    }
+    let mut run = Run::new();
+    let result = run.finish(input, output);
     Ending {
-        run,
-        unread: false,
-        unwritten: false,
-        spent: true,
+        state: run.deck.state,
+        result,
     }
 }
 
-// What stopped a run short goes to standard error. No run that a machine can finish spends its turns.
+// What cut a run short goes to standard error.
 fn main(rt: HostRuntime) {
     let ending = play(&mut rt.reader(), &mut io::writer(&rt));
-    let mut errors = rt.stderr();
-    if ending.unread {
-        complain(&mut errors, b"deck: reading failed\n");
-    }
-    if ending.unwritten {
-        complain(&mut errors, b"deck: writing failed\n");
-    }
-    if ending.spent {
-        complain(&mut errors, b"deck: too many records\n");
+    if let Err(failure) = ending.result {
+        let _ = rt.eprintln(failure);
     }
 }

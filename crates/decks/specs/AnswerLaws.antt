@@ -3,10 +3,11 @@
 --   open_line_done        the line of an accepted opening
 --   open_line_refused     and of a refused one
 --   reading-room         a read into more entries than it writes answers as one into just as many
+--   degree_read           the degree of what is read, or none of the zero polynomial
 --   read_line_done        the line of a read that is done
 --   read_line_wanting     and of one that wants more points
 --   written-taken        the entries that a read wrote
-use Rattle.std.specs.Prelude.{ℕ, ◌≤◌, ◌≡◌, eqb, take, drop}
+use Rattle.std.specs.Prelude.{ℕ, ◌≤◌, ◌≡◌, Option, None, Some, take, drop}
 use Rattle.std.proofs.Math.Bool.{true, false, cond}
 use mathlib.Core.List.{List, [], ◌∷◌, ◌++◌}
 use Rattle.std.proofs.Math.Path.{refl}
@@ -19,7 +20,6 @@ use Rattle.scope.specs.Degree.{tabulate-length}
 use Rattle.job.specs.declared.Job.{Job}
 use Rattle.job.specs.Job.{pair_of}
 use Rattle.job.specs.Calls.{reading, wanted, written, degree_of, is_zero}
-use Rattle.job.specs.Public.{zero_flag}
 use Rattle.decks.specs.declared.Deck.{Deck}
 use Rattle.lines.specs.Text.{line, decimal, spaced, open_word, read_word}
 use Rattle.lines.specs.Line.{degree_text, read_text}
@@ -38,11 +38,15 @@ module _ (j : Job) where
   unfolding reading read_number
   reading-room entries h = rw (le-ltb entries (room (pair_of j)) h, le-ltb (room (pair_of j)) (room (pair_of j)) (le_refl (room (pair_of j)))) refl
 
-  degree_words : degree_word j ≡ degree_text (degree_of (pair_of j)) (zero_flag (pair_of j))
-  unfolding degree_word degree_text zero_flag
-  degree_words = elim (is_zero (pair_of j)) as (λ t. cond t (45 ∷ []) (decimal (degree_of (pair_of j))) ≡ cond (eqb (cond t 1 0) 0) (decimal (degree_of (pair_of j))) (45 ∷ [])) [ true ↦ refl | false ↦ refl ]
+  -- the degree of what is read, or none of the zero polynomial
+  unfoldable pub degree_read : Option ℕ
+  degree_read = cond (is_zero (pair_of j)) None (Some (degree_of (pair_of j)))
 
-  pub read_line_done : reading j (room (pair_of j)) ≡ 0 → read_line j ≡ read_text (degree_of (pair_of j)) (zero_flag (pair_of j)) (written (pair_of j))
+  degree_words : degree_word j ≡ degree_text degree_read
+  unfolding degree_word degree_read
+  degree_words = elim (is_zero (pair_of j)) as (λ t. cond t (45 ∷ []) (decimal (degree_of (pair_of j))) ≡ degree_text (cond t None (Some (degree_of (pair_of j))))) [ true ↦ refl | false ↦ refl ]
+
+  pub read_line_done : reading j (room (pair_of j)) ≡ 0 → read_line j ≡ read_text degree_read (written (pair_of j))
   unfolding read_line read_text
   read_line_done e =
       rw (eq-eqb (reading j (room (pair_of j))) 0 e)

@@ -36,6 +36,8 @@ use Rattle.job.specs.declared.Job.{Job}
 use Rattle.job.specs.Job.{pair_of, blank}
 use Rattle.job.specs.Calls.{offer_number, offered, reading, wanted, written, degree_of, is_zero}
 use Rattle.job.specs.Public.{strict_number, strict_job}
+use Rattle.decks.specs.declared.Stage.{Stage}
+use Rattle.decks.specs.declared.Stage.TheVariants.{NoModulus, NoDegrees, Unopened, Opened}
 use Rattle.decks.specs.declared.Deck.{Deck}
 use Rattle.lines.specs.Text.{line, spaced, decimal, open_word, point_word, read_word, deck_word, end_word}
 
@@ -54,7 +56,7 @@ number4 body at = byte body at + 256 * byte body (at + 1) + 65536 * byte body (a
 unfoldable pub fresh : Deck
 fresh =
     record {
-      stage = 0;
+      stage = NoModulus;
       p = 0;
       m = 0;
       e = 0;
@@ -65,12 +67,11 @@ fresh =
       job = blank;
     }
 
-unfoldable pub in_order : ℕ → ℕ → Bool
-in_order stage k =
-    (eqb stage 0 && eqb k 1)
-    || (eqb stage 1 && eqb k 2)
-    || (eqb stage 2 && (eqb k 3 || eqb k 4))
-    || (eqb stage 3 && (eqb k 5 || eqb k 6))
+unfoldable pub in_order : Stage → ℕ → Bool
+in_order NoModulus k = eqb k 1
+in_order NoDegrees k = eqb k 2
+in_order Unopened k = eqb k 3 || eqb k 4
+in_order Opened k = eqb k 5 || eqb k 6
 
 unfoldable pub astray : Deck → List ℕ → Bool
 astray d body =
@@ -105,11 +106,11 @@ opened_job d = strict_job d.p d.m d.e d.n d.f (table_a d) (table_b d)
 
 unfoldable pub with_modulus : Deck → List ℕ → Deck
 with_modulus d body =
-    record { stage = 1; p = number4 body 0; m = d.m; e = d.e; n = d.n; f = d.f; a = d.a; b = d.b; job = d.job }
+    record { stage = NoDegrees; p = number4 body 0; m = d.m; e = d.e; n = d.n; f = d.f; a = d.a; b = d.b; job = d.job }
 
 unfoldable pub with_degrees : Deck → List ℕ → Deck
 with_degrees d body =
-    record { stage = 2; p = d.p; m = byte body 0; e = byte body 1; n = byte body 2; f = byte body 3; a = d.a; b = d.b; job = d.job }
+    record { stage = Unopened; p = d.p; m = byte body 0; e = byte body 1; n = byte body 2; f = byte body 3; a = d.a; b = d.b; job = d.job }
 
 unfoldable pub with_place : Deck → List ℕ → Deck
 with_place d body =
@@ -117,7 +118,7 @@ with_place d body =
     (record { stage = d.stage; p = d.p; m = d.m; e = d.e; n = d.n; f = d.f; a = set d.a (place 16 (byte body 1) (byte body 2)) (number4 body 3); b = d.b; job = d.job })
     (record { stage = d.stage; p = d.p; m = d.m; e = d.e; n = d.n; f = d.f; a = d.a; b = set d.b (place 16 (byte body 1) (byte body 2)) (number4 body 3); job = d.job })
 
-unfoldable pub with_job : Deck → ℕ → Job → Deck
+unfoldable pub with_job : Deck → Stage → Job → Deck
 with_job d stage j = record { stage = stage; p = d.p; m = d.m; e = d.e; n = d.n; f = d.f; a = d.a; b = d.b; job = j }
 
 unfoldable pub taken : Deck → ℕ → List ℕ → Deck
@@ -125,7 +126,7 @@ taken d k body =
     cond (eqb k 1) (with_modulus d body)
     (cond (eqb k 2) (with_degrees d body)
     (cond (eqb k 3) (with_place d body)
-    (cond (eqb k 4) (cond (eqb (opening d) 0) (with_job d 3 (opened_job d)) d)
+    (cond (eqb k 4) (cond (eqb (opening d) 0) (with_job d Opened (opened_job d)) d)
     (cond (eqb k 5) (with_job d d.stage (offered d.job (number4 body 0))) d))))
 
 unfoldable pub open_line : Deck → List ℕ

@@ -5,7 +5,7 @@
 --   k1_holds    the deck prints those lines
 use Rattle.std.specs.Prelude.{ℕ, List, [], ◌∷◌, ◌≡◌, refl}
 use Rattle.job.specs.Computing.{computing}
-use Rattle.lines.specs.Text.{digits, decimal, spaced, line, open_word, point_word, read_word, deck_word, end_word}
+use Rattle.lines.specs.Text.{digits, decimal, spaced, line}
 use Rattle.decks.specs.Deck.{known, body_length, byte, number4, fresh, in_order, astray, deck_number, tabled, table_a, table_b, opening, opened_job, with_modulus, with_degrees, with_place, with_job, taken, open_line, point_line, degree_word, read_line, line_of, stops, before, halted, from, deck}
 
 abbrev pub k1_deck : List ℕ
@@ -40,5 +40,5 @@ k1_lines =
     ∷ []
 
 pub k1_holds : (deck k1_deck).text ≡ k1_lines
-unfolding computing digits decimal spaced line open_word point_word read_word deck_word end_word known body_length byte number4 fresh in_order astray deck_number tabled table_a table_b opening opened_job with_modulus with_degrees with_place with_job taken open_line point_line degree_word read_line line_of stops before halted from deck
+unfolding computing digits decimal spaced line known body_length byte number4 fresh in_order astray deck_number tabled table_a table_b opening opened_job with_modulus with_degrees with_place with_job taken open_line point_line degree_word read_line line_of stops before halted from deck
 k1_holds = refl

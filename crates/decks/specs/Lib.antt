@@ -3,6 +3,7 @@ pub mod Deck
 pub mod Figure
 -- what the functions promise
 pub mod Step
+pub mod Kind
 -- laws
 pub mod Refusal
 pub mod State

@@ -14,6 +14,7 @@ use Rattle.scope.specs.TableLaws.{term_inside, term_high, term_out}
 use Rattle.job.specs.Public.{strict_number, strict_job}
 use Rattle.job.specs.Replay.{front}
 use Rattle.job.specs.OpenDegrees.{SameTable, strict_degrees}
+use Rattle.decks.specs.declared.Stage.{Stage}
 use Rattle.decks.specs.declared.Deck.{Deck}
 use Rattle.decks.specs.Deck.{tabled, table_a, table_b, opening, opened_job}
 use Rattle.decks.specs.State.{Side, Fit}
@@ -36,7 +37,7 @@ tabled-term m e A i j hi hj =
     column = mul-add-mod_self_right i (e + 1) j ∙ mod-eq_of_lt (omega arith)
 
 -- one polynomial at its declared degrees, and as the state keeps it
-module _ {stage m e : ℕ} {a : List ℕ} (side : Side stage m e a) where
+module _ {stage : Stage} {m e : ℕ} {a : List ℕ} (side : Side stage m e a) where
   front_length : length (front m a) ≡ size m 16
   unfolding size
   front_length = length-take-le ((m + 1) * 17) a (omega (arith, side.full, side.low_x))

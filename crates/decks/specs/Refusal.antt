@@ -11,20 +11,20 @@
 --   whole_body                  its body is all there
 --   Low, low_degrees            its degrees are 16 at most
 --   within_a, within_b          its place is within the declared degrees of its side
---   stage-modulus               a record of kind 1 finds the stage 0,
---   stage_degrees               one of kind 2 the stage 1,
---   stage-place                 one of kind 3 the stage 2,
---   stage_open                  an offer or a read the stage 3
+--   stage-modulus               a record of kind 1 finds no modulus,
+--   stage_degrees               one of kind 2 no degrees,
+--   stage-place                 one of kind 3 no open job,
+--   stage_open                  an offer or a read an open job
 use Rattle.std.specs.Prelude.{ℕ, ◌≤◌, ◌<◌, Bool, true, false, not, ◌&&◌, ◌||◌, cond, List, ◌≡◌, ltb, length}
-use Rattle.std.proofs.Math.Bool.{and-true, and-false, or-false as Bool·or-false}
 use Rattle.std.proofs.Math.Path.{refl}
 use Rattle.std.proofs.Common.{arith}
 use Rattle.std.proofs.Math.Dec.{eqb}
 use borrow.Author.Tests.{ltb-false, eqb-true, ne_eqb, not-false}
 use Rattle.scope.specs.Number.{◌gives◌otherwise◌, too_high}
 use Rattle.scope.specs.Search.{or_false}
-use Rattle.scope.specs.Usable.{and_true as both_true}
 use Rattle.scope.specs.TestLaws.{gives-zero, too_high_false}
+use Rattle.decks.specs.declared.Stage.{Stage}
+use Rattle.decks.specs.declared.Stage.TheVariants.{NoModulus, NoDegrees, Unopened, Opened}
 use Rattle.decks.specs.declared.Deck.{Deck}
 use Rattle.decks.specs.Deck.{known, body_length, byte, in_order, astray, deck_number}
 
@@ -109,31 +109,47 @@ module _ (d : Deck) (body : List ℕ) (e : astray d body ≡ false) where
   pub within_b : eqb (byte body 0) 0 ≡ false → (byte body 1 ≤ d.n) × (byte body 2 ≤ d.f)
   within_b t = within d.n d.f (byte body 1) (byte body 2) (rw t at shape)
 
--- where the last of four tests alone can hold
-only-last : (a b c t : Bool) → ((a && false) || (b && false) || (c && false) || t) ≡ true → t ≡ true
-only-last a b c t e = simp and-false at e
-
 -- the stage at which a record is in order
+modulus_first : (stage : Stage) → in_order stage 1 ≡ true → stage ≡ NoModulus
+unfolding in_order
+modulus_first NoModulus e = refl
+modulus_first NoDegrees e = cc
+modulus_first Unopened e = cc
+modulus_first Opened e = cc
+
+degrees_second : (stage : Stage) → in_order stage 2 ≡ true → stage ≡ NoDegrees
+unfolding in_order
+degrees_second NoModulus e = cc
+degrees_second NoDegrees e = refl
+degrees_second Unopened e = cc
+degrees_second Opened e = cc
+
+places_third : (stage : Stage) → in_order stage 3 ≡ true → stage ≡ Unopened
+unfolding in_order
+places_third NoModulus e = cc
+places_third NoDegrees e = cc
+places_third Unopened e = refl
+places_third Opened e = cc
+
+rest_last : (stage : Stage) (k : ℕ) → 4 < k → in_order stage k ≡ true → stage ≡ Opened
+unfolding in_order
+rest_last NoModulus k late e = absurd (omega (arith, eqb-true k 1 e))
+rest_last NoDegrees k late e = absurd (omega (arith, eqb-true k 2 e))
+rest_last Unopened k late e = let none = rw (ne_eqb k 3 (omega arith), ne_eqb k 4 (omega arith)) at e in cc
+rest_last Opened k late e = refl
+
 module _ (d : Deck) (k : ℕ) (body : List ℕ) (h : Arrived d k body) where
   order : in_order d.stage k ≡ true
   order = not-false (in_order d.stage k) h.order
 
-  pub stage-modulus : k ≡ 1 → d.stage ≡ 0
-  unfolding in_order
-  stage-modulus e = eqb-true d.stage 0 (simp (and-true, and-false, Bool·or-false) at (rw e at order))
+  pub stage-modulus : k ≡ 1 → d.stage ≡ NoModulus
+  stage-modulus e = modulus_first d.stage (rw e at order)
 
-  pub stage_degrees : k ≡ 2 → d.stage ≡ 1
-  unfolding in_order
-  stage_degrees e = eqb-true d.stage 1 (simp (and-true, and-false, Bool·or-false) at (rw e at order))
+  pub stage_degrees : k ≡ 2 → d.stage ≡ NoDegrees
+  stage_degrees e = degrees_second d.stage (rw e at order)
 
-  pub stage-place : k ≡ 3 → d.stage ≡ 2
-  unfolding in_order
-  stage-place e = eqb-true d.stage 2 (simp (and-true, and-false, Bool·or-false) at (rw e at order))
+  pub stage-place : k ≡ 3 → d.stage ≡ Unopened
+  stage-place e = places_third d.stage (rw e at order)
 
-  pub stage_open : 4 < k → d.stage ≡ 3
-  unfolding in_order
-  stage_open late =
-      eqb-true d.stage 3
-      (both_true (eqb d.stage 3) (eqb k 5 || eqb k 6)
-      (only-last (eqb d.stage 0) (eqb d.stage 1) (eqb d.stage 2) (eqb d.stage 3 && (eqb k 5 || eqb k 6))
-      (rw (ne_eqb k 1 (omega arith), ne_eqb k 2 (omega arith), ne_eqb k 3 (omega arith), ne_eqb k 4 (omega arith)) at order))).0
+  pub stage_open : 4 < k → d.stage ≡ Opened
+  stage_open late = rest_last d.stage k late order

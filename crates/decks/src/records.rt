@@ -1,37 +1,105 @@
 // The records of a deck that need no job: what refuses one, and the state after it.
-ghost use Rattle.std.specs.Prelude.{◌+◌, ◌*◌, ◌<◌, ◌≡◌, length};
-ghost use Rattle.decks.specs.Deck.{known as Deck·known, body_length, byte, number4 as Deck·number4, in_order, astray as Deck·astray, deck_number, with_modulus, with_degrees, with_place, fresh as Deck·fresh};
-ghost use Rattle.decks.specs.Refusal.{steep};
+#![tactic(auto, unfolding(crate::specs::Deck::known, crate::specs::Deck::body_length, crate::specs::Deck::byte, crate::specs::Deck::number4, crate::specs::Deck::in_order, crate::specs::Deck::astray, crate::specs::Deck::with_modulus, crate::specs::Deck::with_degrees, crate::specs::Deck::with_place, crate::specs::Deck::fresh, crate::specs::Refusal::steep, scope::specs::Number::too_high, scope::specs::Pair::place))]
 
-use crate::Deck;
+ghost use Rattle.std.specs.Prelude.{◌+◌, ◌*◌, ◌<◌, ◌≡◌, length, false, MatchOption};
+ghost use Rattle.decks.specs.Deck.{known, body_length, byte, number4 as Deck·number4, in_order, astray as Deck·astray, with_modulus, with_degrees, with_place, fresh};
+ghost use Rattle.decks.specs.Refusal.{steep};
+ghost use Rattle.decks.specs.Kind.{kind_number, refusal_number, Admits};
+
+use crate::{Deck, Stage};
 use job::Job;
 
-// A kind that is in the table.
-pub fn known(kind: u8) -> bool
-    ensures { result ≡ Deck·known kind }
-{
-    (1 <= kind) & (kind <= 6)
+// What a record is, by the number of its kind.
+#[derive(Clone, Copy, PartialEq, Eq)]
+pub enum Kind {
+    Modulus = 1,
+    Degrees,
+    Place,
+    Open,
+    Point,
+    Read,
 }
 
-// How many bytes the body of a record has.
-pub fn body_length(kind: u8) -> usize
-    ensures { result ≡ body_length kind }
-{
-    match kind {
-        1 => 4,
-        2 => 4,
-        3 => 7,
-        5 => 4,
-        _ => 0,
+// Why a record is refused.
+#[derive(Clone, Copy, PartialEq, Eq)]
+pub enum Refusal {
+    // No such kind.
+    Unknown,
+    // The body is cut off.
+    Cut,
+    // Out of order.
+    Disorder,
+    // A degree above 16.
+    Steep,
+    // A side or a place outside the shape.
+    Astray,
+}
+
+impl Kind {
+    // The kind with this number, where there is one.
+    pub fn of(number: u8) -> Option<Kind>
+        ensures { MatchOption result (known number ≡ false) (λ k. kind_number k ≡ number) }
+    {
+        match number {
+            1 => Some(Kind::Modulus),
+            2 => Some(Kind::Degrees),
+            3 => Some(Kind::Place),
+            4 => Some(Kind::Open),
+            5 => Some(Kind::Point),
+            6 => Some(Kind::Read),
+            _ => None,
+        }
+    }
+
+    // How many bytes the body of a record has.
+    fn body_length(self) -> usize
+        ensures { result ≡ body_length (kind_number self) }
+    {
+        match self {
+            Kind::Modulus | Kind::Degrees | Kind::Point => 4,
+            Kind::Place => 7,
+            Kind::Open | Kind::Read => 0,
+        }
     }
 }
 
-// One byte of a body.
-fn byte_at(body: &[u8], at: usize) -> u32
-    requires { at < length body.now }
-    ensures { (result ≡ byte body.now at) × (result < 256) }
+impl Refusal {
+    // The number that a refused record prints.
+    pub fn number(self) -> u32
+        ensures { result ≡ refusal_number self }
+    {
+        match self {
+            Refusal::Unknown => 21,
+            Refusal::Cut => 22,
+            Refusal::Disorder => 23,
+            Refusal::Steep => 4,
+            Refusal::Astray => 24,
+        }
+    }
+}
+
+impl Stage {
+    // A record of this kind may stand here.
+    fn admits(self, kind: Kind) -> bool
+        ensures { result ≡ in_order self (kind_number kind) }
+    {
+        match self {
+            Stage::NoModulus => kind == Kind::Modulus,
+            Stage::NoDegrees => kind == Kind::Degrees,
+            Stage::Unopened => kind == Kind::Place || kind == Kind::Open,
+            Stage::Opened => kind == Kind::Point || kind == Kind::Read,
+        }
+    }
+}
+
+// How many bytes the body of a record has: none where there is no such kind.
+pub fn body_length(kind: u8) -> usize
+    ensures { result ≡ body_length kind }
 {
-    body[at] as u32
+    match Kind::of(kind) {
+        Some(kind) => kind.body_length(),
+        None => 0,
+    }
 }
 
 // The little-endian number in four bytes.
@@ -39,21 +107,7 @@ pub fn number4(body: &[u8], at: usize) -> u32
     requires { at + 3 < length body.now }
     ensures { result ≡ Deck·number4 body.now at }
 {
-    let first = byte_at(body, at);
-    let second = byte_at(body, at + 1);
-    let third = byte_at(body, at + 2);
-    let fourth = byte_at(body, at + 3);
-    first + 256 * second + 65536 * third + 16777216 * fourth
-}
-
-// A record of this kind may stand here.
-pub fn in_order(stage: u32, kind: u8) -> bool
-    ensures { result ≡ in_order stage kind }
-{
-    ((stage == 0) & (kind == 1))
-        | ((stage == 1) & (kind == 2))
-        | ((stage == 2) & ((kind == 3) | (kind == 4)))
-        | ((stage == 3) & ((kind == 5) | (kind == 6)))
+    u32::from_le_bytes([body[at], body[at + 1], body[at + 2], body[at + 3]])
 }
 
 // A degree above 16 among the four of a body.
@@ -61,130 +115,103 @@ fn too_high(body: &[u8]) -> bool
     requires { 3 < length body.now }
     ensures { result ≡ steep body.now }
 {
-    (body[0] > 16) | (body[1] > 16) | (body[2] > 16) | (body[3] > 16)
+    body[0] > 16 || body[1] > 16 || body[2] > 16 || body[3] > 16
 }
 
-// A side or a place outside the shape.
-fn astray(d: Deck, body: &[u8]) -> bool
-    requires { 2 < length body.now }
-    ensures { result ≡ Deck·astray d body.now }
-{
-    let side = byte_at(body, 0);
-    let i = byte_at(body, 1);
-    let j = byte_at(body, 2);
-    if side > 1 {
-        return true;
-    }
-    if side == 0 {
-        return (i > d.m) | (j > d.e);
-    }
-    (i > d.n) | (j > d.f)
-}
-
-// The deck refusal of a record of which `body` arrived: 21, 22, 23, 4, 24, or 0.
-pub fn deck_number(d: Deck, kind: u8, body: &[u8]) -> u32
-    ensures { result ≡ deck_number d kind body.now }
-{
-    if !known(kind) {
-        return 21;
-    }
-    if body.len() < body_length(kind) {
-        return 22;
-    }
-    let stage = d.stage;
-    if !in_order(stage, kind) {
-        return 23;
-    }
-    if kind == 2 {
-        if too_high(body) {
-            return 4;
+impl Deck {
+    // The state before the first record.
+    pub fn new() -> Deck
+        ensures { result ≡ fresh }
+    {
+        Deck {
+            stage: Stage::NoModulus,
+            p: 0,
+            m: 0,
+            e: 0,
+            n: 0,
+            f: 0,
+            a: [0; 289],
+            b: [0; 289],
+            job: Job::default(),
         }
-        return 0;
     }
-    if kind == 3 {
-        if astray(d, body) {
-            return 24;
+
+    // The kind of a record of which `body` arrived, or why it is refused.
+    pub fn admit(&self, kind: u8, body: &[u8]) -> Result<Kind, Refusal>
+        ensures { Admits self.now kind body.now result }
+    {
+        let Some(known) = Kind::of(kind) else {
+            return Err(Refusal::Unknown);
+        };
+        if body.len() < known.body_length() {
+            return Err(Refusal::Cut);
         }
-        return 0;
+        if !self.stage.admits(known) {
+            return Err(Refusal::Disorder);
+        }
+        match known {
+            Kind::Degrees => {
+                if too_high(body) {
+                    return Err(Refusal::Steep);
+                }
+            }
+            Kind::Place => {
+                if self.astray(body) {
+                    return Err(Refusal::Astray);
+                }
+            }
+            _ => {}
+        }
+        Ok(known)
     }
-    0
-}
 
-// The state after a record of kind 1.
-pub fn with_modulus(d: Deck, body: &[u8]) -> Deck
-    requires { 3 < length body.now }
-    ensures { result ≡ with_modulus d body.now }
-{
-    let p = number4(body, 0);
-    let mut next = d;
-    next.stage = 1;
-    next.p = p;
-    next
-}
-
-// The state after a record of kind 2.
-pub fn with_degrees(d: Deck, body: &[u8]) -> Deck
-    requires { 3 < length body.now }
-    ensures { result ≡ with_degrees d body.now }
-{
-    let m = byte_at(body, 0);
-    let e = byte_at(body, 1);
-    let n = byte_at(body, 2);
-    let f = byte_at(body, 3);
-    let mut next = d;
-    next.stage = 2;
-    next.m = m;
-    next.e = e;
-    next.n = n;
-    next.f = f;
-    next
-}
-
-// The state after a record of kind 3, whose place is within the tables.
-pub fn with_place(d: Deck, body: &[u8]) -> Deck
-    requires in_bounds { 6 < length body.now }
-    requires body_bound { byte body.now 1 * 17 + byte body.now 2 < 289 }
-    ensures { result ≡ with_place d body.now }
-{
-    let side = byte_at(body, 0);
-    let i = byte_at(body, 1);
-    let j = byte_at(body, 2);
-    let value = number4(body, 3);
-    let at = (i * 17 + j) as usize;
-    let mut next = d;
-    if side == 0 {
-        next.a[at] = value;
-        return next;
+    // A side or a place outside the shape.
+    fn astray(&self, body: &[u8]) -> bool
+        requires { 2 < length body.now }
+        ensures { result ≡ Deck·astray self.now body.now }
+    {
+        let i = u32::from(body[1]);
+        let j = u32::from(body[2]);
+        match body[0] {
+            0 => i > self.m || j > self.e,
+            1 => i > self.n || j > self.f,
+            _ => true,
+        }
     }
-    next.b[at] = value;
-    next
-}
 
-// The state before the first record.
-pub fn fresh() -> Deck
-    ensures { result ≡ Deck·fresh }
-{
-    let job = Job {
-        p: 0,
-        m: 0,
-        n: 0,
-        da: 0,
-        db: 0,
-        count: 0,
-        a: [0; 289],
-        b: [0; 289],
-        points: [0; 513],
-        values: [0; 513],
-    };
-    Deck {
-        stage: 0,
-        p: 0,
-        m: 0,
-        e: 0,
-        n: 0,
-        f: 0,
-        a: [0; 289],
-        b: [0; 289],
-        job,
+    // Takes a record of kind 1.
+    pub fn set_modulus(&mut self, body: &[u8])
+        requires { 3 < length body.now }
+        ensures { self.new ≡ with_modulus self.old body.now }
+    {
+        self.stage = Stage::NoDegrees;
+        self.p = number4(body, 0);
+    }
+
+    // Takes a record of kind 2.
+    pub fn set_degrees(&mut self, body: &[u8])
+        requires { 3 < length body.now }
+        ensures { self.new ≡ with_degrees self.old body.now }
+    {
+        self.stage = Stage::Unopened;
+        self.m = u32::from(body[0]);
+        self.e = u32::from(body[1]);
+        self.n = u32::from(body[2]);
+        self.f = u32::from(body[3]);
+    }
+
+    // Takes a record of kind 3, whose place is within the tables.
+    pub fn set_place(&mut self, body: &[u8])
+        requires whole { 6 < length body.now }
+        requires inside { byte body.now 1 * 17 + byte body.now 2 < 289 }
+        ensures { self.new ≡ with_place self.old body.now }
+    {
+        let at = usize::from(body[1]) * 17 + usize::from(body[2]);
+        let value = number4(body, 3);
+        if body[0] == 0 {
+            self.a[at] = value;
+        } else {
+            self.b[at] = value;
+        }
     }
 }

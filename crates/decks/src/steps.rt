@@ -1,142 +1,166 @@
 // One record of a deck: the state after it, the line that it prints, and whether the run stops.
 // The job in a state comes from an opening and offers alone, so no call here checks it again.
-ghost use Rattle.std.specs.Prelude.{◌≤◌, ◌<◌, false, [], ◌≡◌, length};
-ghost use Rattle.job.specs.Standing.{Standing};
-ghost use Rattle.decks.specs.Deck.{deck_number, read_line};
+ghost use Rattle.std.specs.Prelude.{◌≤◌, ◌≡◌, [], length};
+ghost use Rattle.decks.specs.declared.Stage.TheVariants.{Opened};
+ghost use Rattle.decks.specs.Deck.{deck_number, fresh, point_line, read_line, with_job};
 ghost use Rattle.decks.specs.DeckLaws.{stepped};
+ghost use Rattle.decks.specs.Kind.{kind_number};
 ghost use Rattle.decks.specs.State.{Fit};
-ghost use Rattle.lines.specs.Buffer.{Begins};
-ghost use Rattle.decks.specs.Step.{settled, Steps};
+ghost use Rattle.decks.specs.Step.{settled, Opens, Steps};
+ghost use Rattle.job.specs.Calls.{offered};
+ghost use Rattle.residue.specs.Prime.{Prime-prop};
+ghost use Rattle.std.proofs.Props.{props};
 
-use crate::records::{deck_number, number4, with_degrees, with_modulus, with_place};
-use crate::{Deck, Step};
-use job::Job;
-use lines::{deck_line, open_line, point_line, read_line, refused_line, wanted_line};
+use crate::records::{Kind, number4};
+use crate::{Deck, Stage};
+use arrayvec::ArrayString;
+use checks::Refusal;
+use lines::Line;
+use offers::SoundJob;
 
-// The line of a read.
-fn read_out(j: Job, out: &mut [u8]) -> usize
-    requires standing { Standing j }
-    requires in_bounds { 5707 ≤ length out.old }
-    ensures { Begins out.old (read_line j) out.new result }
-{
-    let mut entries = [0u32; 513];
-    let answer = reads::read_sound(j, &mut entries);
-    if answer.number != 0 {
-        return wanted_line(answer.wanted, out);
-    }
-    let count = offers::needed_for(j) as usize;
-    read_line(answer.degree, answer.zero, &entries, count, out)
+// A state that a run may come to: its tables are those of its degrees, and an open job is sound.
+#[derive(Clone, Copy)]
+pub struct FitDeck {
+    pub state: Deck,
+    pub ghost fit: { Fit state } by { Prim.hlevel (props, Prime-prop) },
 }
 
-// Kind 6.
-fn step_read(d: Deck, out: &mut [u8]) -> Step
-    requires standing { Standing d.job }
-    requires in_bounds { 5707 ≤ length out.old }
-    ensures { Steps (settled d 6 []) out.old result out.new }
-{
-    let j = d.job;
-    let length = read_out(j, out);
-    Step {
-        state: d,
-        length,
-        halt: false,
+impl FitDeck {
+    // The state before the first record.
+    pub fn new() -> FitDeck
+        ensures { result.state ≡ fresh }
+    {
+        FitDeck { state: Deck::new() }
     }
-}
 
-// Kind 5.
-fn step_point(d: Deck, body: &[u8], out: &mut [u8]) -> Step
-    requires standing { Standing d.job }
-    requires in_bounds { 3 < length body.now }
-    requires in_bounds_2 { 64 ≤ length out.old }
-    ensures { Steps (settled d 5 body.now) out.old result out.new }
-{
-    let a = number4(body, 0);
-    let j = d.job;
-    let answer = offers::offer_sound(j, a);
-    let length = point_line(a, answer.number, out);
-    let next = answer.job;
-    let mut state = d;
-    state.job = next;
-    Step {
-        state,
-        length,
-        halt: false,
+    // The record of this kind whose kind byte is at `offset`, and of whose body `body` arrived: its line, in place of what the
+    // buffer held, and whether the run stops after it.
+    pub fn step<const CAP: usize>(
+        &mut self,
+        kind: u8,
+        body: &[u8],
+        offset: u64,
+        line: &mut ArrayString<CAP>,
+    ) -> bool
+        requires { 5707 ≤ CAP }
+        ensures { Steps (stepped self.old.state kind body.now offset) self.new.state result line.new.bytes }
+    {
+        match self.state.admit(kind, body) {
+            Ok(kind) => self.settle(kind, body, line),
+            Err(refusal) => {
+                let number = refusal.number();
+                Line::Refused { number, offset }.write(line);
+                true
+            }
+        }
     }
-}
 
-// Kind 4.
-fn step_open(d: Deck, out: &mut [u8]) -> Step
-    requires fit { Fit d }
-    requires in_bounds { 64 ≤ length out.old }
-    ensures { Steps (settled d 4 []) out.old result out.new }
-{
-    let a = d.a;
-    let b = d.b;
-    let size_a = ((d.m + 1) * 17) as usize;
-    let size_b = ((d.n + 1) * 17) as usize;
-    let answer = opening::strict(d.p, d.m, 16, d.n, 16, &a[..size_a], &b[..size_b]);
-    if answer.number != 0 {
-        let length = refused_line(answer.number, out);
-        return Step {
-            state: d,
-            length,
-            halt: true,
-        };
+    // A record that is not refused.
+    fn settle<const CAP: usize>(
+        &mut self,
+        kind: Kind,
+        body: &[u8],
+        line: &mut ArrayString<CAP>,
+    ) -> bool
+        requires admitted { deck_number self.old.state (kind_number kind) body.now ≡ 0 }
+        requires room { 5707 ≤ CAP }
+        ensures { Steps (settled self.old.state (kind_number kind) body.now) self.new.state result line.new.bytes }
+    {
+        line.clear();
+        match kind {
+            Kind::Modulus => {
+                self.state.set_modulus(body);
+                false
+            }
+            Kind::Degrees => {
+                self.state.set_degrees(body);
+                false
+            }
+            Kind::Place => {
+                self.state.set_place(body);
+                false
+            }
+            Kind::Open => self.open(line),
+            Kind::Point => {
+                self.offer(number4(body, 0), line);
+                false
+            }
+            Kind::Read => {
+                self.read(line);
+                false
+            }
+        }
     }
-    let job = answer.job;
-    let length = open_line(offers::needed_for(job) - 1, out);
-    let mut state = d;
-    state.stage = 3;
-    state.job = job;
-    Step {
-        state,
-        length,
-        halt: false,
-    }
-}
 
-// A record that prints nothing.
-fn silent(state: Deck) -> Step
-    ensures { result ≡ record { state = state; length = 0; halt = false } }
-{
-    Step {
-        state,
-        length: 0,
-        halt: false,
+    // Opens the tables. A refused opening stops the run.
+    fn open<const CAP: usize>(&mut self, line: &mut ArrayString<CAP>) -> bool
+        requires { 64 ≤ CAP }
+        ensures { Steps (settled self.old.state 4 []) self.new.state result line.new.bytes }
+    {
+        match self.opened() {
+            Ok(job) => {
+                let bound = job.needed() - 1;
+                Line::Opened { bound }.write(line);
+                self.state.stage = Stage::Opened;
+                self.state.job = job.job;
+                false
+            }
+            Err(refusal) => {
+                let number = refusal.number();
+                Line::Unopened { number }.write(line);
+                true
+            }
+        }
     }
-}
 
-// A record that is not refused.
-fn settle(d: Deck, kind: u8, body: &[u8], out: &mut [u8]) -> Step
-    requires fit { Fit d }
-    requires body_value { deck_number d kind body.now ≡ 0 }
-    requires in_bounds { 5707 ≤ length out.old }
-    ensures { Steps (settled d kind body.now) out.old result out.new }
-{
-    match kind {
-        1 => silent(with_modulus(d, body)),
-        2 => silent(with_degrees(d, body)),
-        3 => silent(with_place(d, body)),
-        4 => step_open(d, out),
-        5 => step_point(d, body, out),
-        _ => step_read(d, out),
+    // The sound job of the tables, which are laid out for degree 16 in y, or what refuses them.
+    fn opened(&self) -> Result<SoundJob, Refusal>
+        ensures { Opens self.now.state result }
+    {
+        let d = &self.state;
+        let size_a = ((d.m + 1) * 17) as usize;
+        let size_b = ((d.n + 1) * 17) as usize;
+        opening::strict(d.p, d.m, 16, d.n, 16, &d.a[..size_a], &d.b[..size_b])
     }
-}
 
-// The record of this kind whose kind byte is at `offset`, and of whose body `body` arrived.
-pub fn step(d: Deck, kind: u8, body: &[u8], offset: u64, out: &mut [u8]) -> Step
-    requires fit { Fit d }
-    requires in_bounds { 5707 ≤ length out.old }
-    ensures { Steps (stepped d kind body.now offset) out.old result out.new }
-{
-    let number = deck_number(d, kind, body);
-    if number != 0 {
-        let length = deck_line(number, offset, out);
-        return Step {
-            state: d,
-            length,
-            halt: true,
-        };
+    // The open job.
+    fn job(&self) -> SoundJob
+        requires { self.now.state.stage ≡ Opened }
+        ensures { result.job ≡ self.now.state.job }
+    {
+        SoundJob { job: self.state.job }
     }
-    settle(d, kind, body, out)
+
+    // Offers a point to the open job.
+    fn offer<const CAP: usize>(&mut self, a: u32, line: &mut ArrayString<CAP>)
+        requires stage { self.old.state.stage ≡ Opened }
+        requires room { 64 ≤ CAP }
+        ensures state { self.new.state ≡ with_job self.old.state self.old.state.stage (offered self.old.state.job a) }
+        ensures line { line.new.bytes ≡ point_line self.old.state.job a }
+    {
+        let mut job = self.job();
+        let number = offers::answer(job.offer(a));
+        Line::Point { a, number }.write(line);
+        self.state.job = job.job;
+    }
+
+    // Reads the open job.
+    fn read<const CAP: usize>(&self, line: &mut ArrayString<CAP>)
+        requires stage { self.now.state.stage ≡ Opened }
+        requires room { 5707 ≤ CAP }
+        ensures { line.new.bytes ≡ read_line self.now.state.job }
+    {
+        let job = self.job();
+        let mut entries = [0u32; 513];
+        match reads::read(&job, &mut entries) {
+            Ok(degree) => {
+                let entries = &entries[..job.needed() as usize];
+                Line::Read { degree, entries }.write(line);
+            }
+            Err(refusal) => {
+                let points = refusal.wanted();
+                Line::Wanted { points }.write(line);
+            }
+        }
+    }
 }

@@ -115,8 +115,7 @@ pub fn offer(j: Job, a: u32) -> JobAnswer
     ensures { OfferResult j a result }
 {
     match sounding::sound(j) {
-        Ok(job) => {
-            let mut job = job;
+        Ok(mut job) => {
             let number = offers::answer(job.offer(a));
             JobAnswer {
                 number,
@@ -133,8 +132,7 @@ pub fn lot(j: Job, points: &[u32], answers: &mut [u8]) -> JobAnswer
 {
     match sounding::sound(j) {
         Ok(_) if answers.len() < points.len() => refused(Refusal::Room, j),
-        Ok(job) => {
-            let mut job = job;
+        Ok(mut job) => {
             job.lot(points, answers);
             JobAnswer {
                 number: 0,

@@ -10,7 +10,7 @@ use Rattle.std.specs.Prelude.{ℕ, zero, suc, ◌+◌, ◌*◌, ◌^◌, ◌≤�
 use Rattle.std.proofs.Common.{arith, sym, ap, ◌∙◌, add-one, append-nil, append_assoc, length-append, take-append-drop, take-suc, take_all}
 use Rattle.std.specs.Fmt.{decimal as Fmt·decimal}
 use Rattle.std.proofs.lemmas.Fmt.{PrependsLastDigit, decimal_from_prepends, length-decimal-le_succ}
-use Rattle.lines.specs.Text.{digits, decimal, spaced, line, read_word}
+use Rattle.lines.specs.Text.{digits, decimal, spaced, line}
 use Rattle.lines.specs.Line.{degree_text, read_text}
 use Rattle.lines.specs.TextLaws.{digits_last, digits_more, spaced-on, spaced-one}
 

@@ -5,12 +5,11 @@
 --   first_at                  the column at each place of the first n of them
 --   removed                   without the column at place j, place k holds the one at skip j k
 --   one_fewer, fewer_columns  the other columns are one fewer, and columns of a table
-use Rattle.std.proofs.Common.{ℕ, zero, suc, ◌+◌, ◌-◌, ◌<◌, ◌≤◌, List, [], ◌∷◌, ◌≡◌, length, get_or, take, refl, sym, ap, subst, ◌∙◌, add-one, arith}
-use Rattle.std.proofs.Math.Seq.{get_or-take, length-take-le}
+use Rattle.std.proofs.Common.{inl, inr, ◌⊎◌, ℕ, zero, suc, ◌+◌, ◌-◌, ◌<◌, ◌≤◌, List, [], ◌∷◌, ◌≡◌, length, get_or, take, refl, sym, ap, subst, ◌∙◌, add-one, arith}
+use Rattle.std.proofs.Math.Seq.{get_or-take}
 use Rattle.std.specs.List.{remove}
 use Rattle.std.proofs.lemmas.Bool.{cases_lt}
 use Rattle.std.proofs.lemmas.List.Edits.{length-remove, get_or-remove_below, get_or-remove_above}
-use Rattle.std.proofs.Common.{inl, inr, ◌⊎◌}
 use Rattle.ring.specs.Det.{skip}
 use Rattle.ring.specs.DetLaws.{skip-lt}
 use Rattle.plain.specs.Expansion.{Columns}

@@ -11,8 +11,8 @@ use native.Mathlib.Omega.{arith}
 use native.Mathlib.Decide.{ℕ_discrete}
 use mathlib.Core.Path.{◌≡◌, sym, ap, ap₂, subst, ◌∙◌}
 use mathlib.Core.List.{List}
-use lib.ListN.{length, get_or, set, take, length-set}
-use lib.Seq.{get_or-set_same, get_or-set_other, length-take-le}
+use lib.ListN.{length, get_or, take}
+use lib.Seq.{length-take-le}
 use Rattle.std.specs.Array.{IsFromFnResult, IsFromFnResultFrom}
 use Rattle.std.specs.Fn.{Called}
 use denote.Param.Members.{Mut}

@@ -4,7 +4,7 @@
 --   part A row cols          the matrix A from its row `row` on, in the columns that cols lists
 --   Columns n cols           the first n entries of cols are columns of a table
 --   signed R n A j           the term of column j in the expansion of the (n+1) by (n+1) matrix A along its first row
-use Rattle.std.specs.Prelude.{ℕ, zero, ◌+◌, ◌*◌, ◌<◌, ◌≡◌, List, get_or}
+use Rattle.std.specs.Prelude.{ℕ, zero, ◌+◌, ◌*◌, ◌<◌, List, get_or}
 use Rattle.ring.specs.Ring.{Ring, sign}
 use Rattle.ring.specs.Det.{det, minor}
 use Rattle.residue.specs.Residue.{residues, res}

@@ -4,12 +4,10 @@
 --                  None where it is
 use Rattle.std.specs.Prelude.{ℕ, Option, Some, None, Result, Ok, Err}
 use Rattle.checks.specs.declared.Refusal.{Refusal}
-use Rattle.checks.specs.declared.Refusal.TheVariants.{Wanted}
-use Rattle.checks.specs.Outcome.{number_of}
+use Rattle.checks.specs.Outcome.{number_of, wanted_of}
 use Rattle.job.specs.declared.ReadAnswer.{ReadAnswer}
 
 abbrev pub answered : Result (Option ℕ) Refusal → ReadAnswer
 answered (Ok (Some d)) = record { number = 0; wanted = 0; degree = d; zero = 0 }
 answered (Ok None) = record { number = 0; wanted = 0; degree = 0; zero = 1 }
-answered (Err (Wanted w)) = record { number = 14; wanted = w; degree = 0; zero = 0 }
-answered (Err r) = record { number = number_of r; wanted = 0; degree = 0; zero = 0 }
+answered (Err r) = record { number = number_of r; wanted = wanted_of r; degree = 0; zero = 0 }

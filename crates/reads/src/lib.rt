@@ -18,23 +18,18 @@ use offers::SoundJob;
 pub fn answer(outcome: Result<Option<u32>, Refusal>) -> ReadAnswer
     ensures { result ≡ answered outcome }
 {
-    let refused = ReadAnswer {
-        number: 0,
-        wanted: 0,
-        degree: 0,
-        zero: 0,
-    };
     match outcome {
-        Ok(Some(degree)) => ReadAnswer { degree, ..refused },
-        Ok(None) => ReadAnswer { zero: 1, ..refused },
-        Err(Refusal::Wanted(wanted)) => ReadAnswer {
-            number: 14,
-            wanted,
-            ..refused
+        Ok(degree) => ReadAnswer {
+            number: 0,
+            wanted: 0,
+            degree: degree.unwrap_or(0),
+            zero: u32::from(degree.is_none()),
         },
         Err(refusal) => ReadAnswer {
             number: refusal.number(),
-            ..refused
+            wanted: refusal.wanted(),
+            degree: 0,
+            zero: 0,
         },
     }
 }

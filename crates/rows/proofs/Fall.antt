@@ -8,7 +8,7 @@
 --   vanish-value      it is not, and the second row is all zero
 --   true_row          the front of the second row that is left is one for the row resultant
 --   fall-value        the second row falls to it
-use Prim.Native.Nat.{ℕ, zero, suc, ◌+◌, ◌-◌, ◌*◌, ◌%◌, ◌<◌, ◌≤◌}
+use Prim.Native.Nat.{ℕ, zero, suc, ◌+◌, ◌-◌, ◌*◌, ◌%◌, ◌<◌}
 use native.Mathlib.Nat.{mod-lt}
 use native.Mathlib.Omega.{arith}
 use mathlib.Core.List.{List, []}

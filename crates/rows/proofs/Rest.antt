@@ -12,28 +12,28 @@ use mathlib.Core.Path.{◌≡◌, refl, sym, subst₂}
 use lib.ListN.{length, get_or, take}
 use Rattle.ring.specs.Ring.{pow, sign}
 use Rattle.residue.specs.Residue.{residues, res, val}
-use Rattle.euclid.specs.Row.{declared}
+use Rattle.euclid.specs.Row.{trim, declared}
 use Rattle.euclid.specs.Division.{remainder, quotient, count}
 use Rattle.euclid.specs.Sequence.{monic, sequence}
 use Rattle.euclid.specs.FollowingLaws.{Neighbours, next}
 use Rattle.field.specs.declared.Modulus.{Modulus}
 use Rattle.rows.specs.declared.Place.{Place}
 use Rattle.rows.specs.Last.{swapped}
-use Rattle.rows.proofs.Chain.{next-front, next_more}
+use Rattle.rows.proofs.Chain.{next-length, next-front, next_more}
 use Rattle.rows.proofs.Turns.{Answer, answer_more, steps_most}
 
 module _ (q : Modulus) (a b : List ℕ) (rows : Neighbours q.value a b) {d row : List ℕ} {k : ℕ} (monic-is : d ≡ monic q.value b)
-    (row-is : row ≡ remainder q.value a (monic q.value b) ++ quotient q.value a (monic q.value b)) (long : k ≡ length (next q.value a b)) (some : k ≢ 0) where
+    (row-is : row ≡ remainder q.value a (monic q.value b) ++ quotient q.value a (monic q.value b)) (cut : k ≡ length (trim (take (length b - 1) row))) (some : k ≢ 0) where
   abbrev p : ℕ
   p = q.value
 
   open residues p use {◌⊗◌}
 
   front : take k row ≡ next p a b
-  front = next-front p a b row-is long
+  front = next-front p a b rows row-is cut
 
   more : Neighbours p (monic p b) (next p a b) × (length (next p a b) < length b)
-  more = next_more q a b rows (omega arith)
+  more = next_more q a b rows (omega (arith, next-length p a b rows row-is cut))
 
   pub goes_on : Neighbours p d (take k row) × (length (take k row) < length b)
   goes_on =

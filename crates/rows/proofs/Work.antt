@@ -26,9 +26,6 @@ use Rattle.rows.proofs.Places.{less_cut}
 pub part_end : (j : ℕ) (row : List ℕ) → mid_of j (length row - j) row ≡ drop j row
 part_end j row = take_all (length row - j) (drop j row) (omega (arith, length-drop j row))
 
-pub part_length : (j : ℕ) (row : List ℕ) → length (mid_of j (length row - j) row) ≡ length row - j
-part_length j row = ap length (part_end j row) ∙ length-drop j row
-
 put_end : (j : ℕ) (row ys : List ℕ) → put_mid j (length row - j) row ys ≡ take j row ++ ys
 put_end j row ys =
     ap (λ (l : List ℕ). take j row ++ (ys ++ l)) (drop_of_length-le (drop j row) {i = length row - j} (omega (arith, length-drop j row)))

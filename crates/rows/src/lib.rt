@@ -10,7 +10,7 @@ ghost use Rattle.euclid.specs.Row.{declared, degree, trim, row_determinant};
 ghost use Rattle.euclid.specs.RowLaws.{Below, Ended};
 ghost use Rattle.euclid.specs.Division.{less, remainder, quotient, count};
 ghost use Rattle.euclid.specs.Sequence.{monic, sequence, formula, steps, row_resultant, row_steps};
-ghost use Rattle.euclid.specs.FollowingLaws.{Neighbours, next};
+ghost use Rattle.euclid.specs.FollowingLaws.{Neighbours};
 ghost use Rattle.rows.specs.Given.{IsRow, IsDeclared};
 ghost use Rattle.rows.specs.Which.{pick, first?, lower};
 ghost use Rattle.rows.specs.Last.{last_row, row_sequence, swapped, Lies};
@@ -25,6 +25,7 @@ pub fn subtract(p: u32, q: u32, part: &mut [u32], b: &[u32])
     requires b_below { Below p b.now }
     ensures { part.new ≡ less p q part.old b.now }
 {
+    // by its index, since of what is written through `part.iter_mut().zip(b)` a proof knows nothing
     for (i, y) in b.iter().enumerate() {
         part[i] = field::mul_sub(p, part[i], q, *y);
     }
@@ -133,30 +134,16 @@ fn turn(p: Modulus, lead: u32, m: usize, n: usize, x: u32) -> u32
     field::mul(p.value, high, signed(p.value, m * n, x))
 }
 
-// What a division leaves: its steps, and how long the remainder is when it is trimmed
-#[derive(Clone, Copy)]
-struct Cut {
-    steps: u32,
-    len: usize,
-}
-
 // One division of the sequence: r is made monic, and before divided by it in place
-fn divided(p: Modulus, before: &mut [u32], r: &mut [u32]) -> Cut
+fn divided(p: Modulus, before: &mut [u32], r: &mut [u32]) -> u32
     requires neighbours { Neighbours p.value before.old r.old }
     requires before_short { length before.old ≤ 17 }
     ensures made_monic { r.new ≡ monic p.value r.old }
     ensures divided { before.new ≡ remainder p.value before.old (monic p.value r.old) ++ quotient p.value before.old (monic p.value r.old) }
-    ensures steps { result.steps ≡ count (length before.old) (declared r.old) }
-    ensures len { result.len ≡ length (next p.value before.old r.old) }
+    ensures steps { result ≡ count (length before.old) (declared r.old) }
 {
-    let n = r.len() - 1;
     make_monic(p, r);
-    let steps = divide(p, before, r);
-    let rest = divisor(&before[..n], r);
-    Cut {
-        steps,
-        len: rest.len(),
-    }
+    divide(p, before, r)
 }
 
 // Where a row stands: at the start of the first of two work rows or of the second, so many entries long
@@ -206,19 +193,19 @@ pub fn euclid(p: Modulus, before: &mut [u32], r: &mut [u32]) -> Found
             last: Place::Second(1),
         };
     }
-    let cut = divided(p, before, r);
-    let k = cut.len;
+    let steps = divided(p, before, r);
+    let k = true_length(&before[..n]);
     if k == 0 {
         return Found {
             value: 0,
-            steps: cut.steps,
+            steps,
             last: Place::Second(n + 1),
         };
     }
     let rest = euclid(p, r, &mut before[..k]);
     Found {
         value: turn(p, lead, m, n, rest.value),
-        steps: cut.steps + rest.steps,
+        steps: steps + rest.steps,
         last: rest.last.swapped(),
     }
 }

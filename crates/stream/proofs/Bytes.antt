@@ -3,14 +3,13 @@
 --   consumes_none, consumes_more   nothing is brought by no read; what two reads bring is what both bring together
 --   appends_none, appends_more     the same of writes
 --   filled_more                    a read into the middle of a body, after what the body holds already
---   first_byte                     what a body of one byte holds
-use Rattle.std.specs.Prelude.{ℕ, ◌+◌, ◌≤◌, ◌≡◌, refl, Option, Some, None, length, get_or, take, drop}
+use Rattle.std.specs.Prelude.{ℕ, ◌+◌, ◌≤◌, ◌≡◌, refl, Option, Some, None, length, take, drop}
 use Rattle.std.specs.Io.KnownBytes.{Consumes, Appends}
-use Rattle.std.proofs.Common.{arith, sym, ap, ◌∙◌, subst, append_assoc, append-nil}
+use Rattle.std.proofs.Common.{sym, ap, ◌∙◌, subst, append_assoc, append-nil}
 use Rattle.std.proofs.Math.Seq.{take-append-add}
 use Rattle.std.proofs.lemmas.List.{take-append-le, length-take-le}
 use borrow.Rule.Slice.PartMut.{put_mid}
-use mathlib.Core.List.{List, [], ◌∷◌, ◌++◌}
+use mathlib.Core.List.{List, [], ◌++◌}
 
 pub consumes_none : (a : Option (List ℕ)) → Consumes a a []
 consumes_none None = tt
@@ -45,7 +44,3 @@ pub filled_more : (a b c : Option (List ℕ)) (n k m : ℕ) (body part : List �
     → Consumes a b (take n body) → Consumes b c (take m part) → Consumes a c (take (n + m) (put_mid n k body part))
 filled_more a b c n k m body part within few first second =
     subst (λ (t : List ℕ). Consumes a c t) (sym (filled n k m body part within few)) (consumes_more a b c (take n body) (take m part) first second)
-
-pub first_byte : (xs : List ℕ) → length xs ≡ 1 → take 1 xs ≡ get_or xs 0 0 ∷ []
-first_byte [] e = absurd (omega arith)
-first_byte (x ∷ xs) e = refl

@@ -3,25 +3,34 @@
 --   Reads n r       one read into n bytes: it brought some, or the input ended, or it failed
 --   Fills need r    so many bytes came, or fewer, and then the input ended or a read failed
 --   Arrives a       a record, whole or cut; cut, or none at all, only where the input ended or a read failed
---   bytes_of a       the bytes of the deck that arrived with it
-use Rattle.std.specs.Prelude.{ℕ, ◌≤◌, ◌<◌, true, false, cond, List, [], ◌∷◌, ◌⊎◌, ◌≡◌, length, take}
+--   bytes_of a      the bytes of the deck that arrived with it
+--   stop_of a       why no more of them arrived, where it is not whole
+use Rattle.std.specs.Prelude.{ℕ, ⊤, ◌≤◌, ◌<◌, ◌≡◌, List, [], ◌∷◌, Option, Some, None, Result, Ok, Err, length}
 use Rattle.decks.specs.Deck.{body_length}
-use Rattle.stream.specs.declared.Piece.{Piece}
+use Rattle.stream.specs.declared.Stop.{Stop}
+use Rattle.stream.specs.declared.Short.{Short}
 use Rattle.stream.specs.declared.Arrival.{Arrival}
+use Rattle.stream.specs.declared.Arrival.TheVariants.{Whole, Cut, Nothing}
 
-pub record Reads (n : ℕ) (r : Piece) : Type 0 where
-  pub few : r.count ≤ n
-  pub why : r.count ≡ 0 → (r.ended ≡ true) ⊎ (r.failed ≡ true)
+abbrev pub Reads : ℕ → Result ℕ Stop → Type 0
+Reads n (Ok count) = (0 < count) × (count ≤ n)
+Reads n (Err stop) = ⊤
 
-pub record Fills (need : ℕ) (r : Piece) : Type 0 where
-  pub few : r.count ≤ need
-  pub why : r.count < need → (r.ended ≡ true) ⊎ (r.failed ≡ true)
+abbrev pub Fills : ℕ → Result (Unit {0}) Short → Type 0
+Fills need (Ok _) = ⊤
+Fills need (Err short) = short.count < need
 
-pub record Arrives (a : Arrival) : Type 0 where
-  pub few : a.count ≤ body_length a.kind
-  pub held : length a.body ≡ 7
-  pub none : a.found ≡ false → (a.ended ≡ true) ⊎ (a.failed ≡ true)
-  pub cut : a.count < body_length a.kind → (a.ended ≡ true) ⊎ (a.failed ≡ true)
+abbrev pub Arrives : Arrival → Type 0
+Arrives (Whole r) = length r.body.items ≡ body_length r.kind
+Arrives (Cut r stop) = length r.body.items < body_length r.kind
+Arrives (Nothing stop) = ⊤
 
-unfoldable pub bytes_of : Arrival → List ℕ
-bytes_of a = cond a.found (a.kind ∷ take a.count a.body) []
+abbrev pub bytes_of : Arrival → List ℕ
+bytes_of (Whole r) = r.kind ∷ r.body.items
+bytes_of (Cut r stop) = r.kind ∷ r.body.items
+bytes_of (Nothing stop) = []
+
+abbrev pub stop_of : Arrival → Option Stop
+stop_of (Whole r) = None
+stop_of (Cut r stop) = Some stop
+stop_of (Nothing stop) = Some stop

@@ -1,5 +1,5 @@
 -- `rows::determinant_in`: by which of the two leading entries are 0.
-use Rattle.std.proofs.Common.{ap, rules, arith, ◌∙◌, ◌≢◌, ◌≡◌, get_or, length, ◌-◌}
+use Rattle.std.proofs.Common.{ap, rules, ◌∙◌}
 use Rattle.residue.specs.Residue.{val}
 use Rattle.rows.proofs.Fall.{ended_row, plain_value_lem, swap-value, both_fall}
 use Rattle.rows.proofs.Value.{value_below}

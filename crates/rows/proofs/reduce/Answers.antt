@@ -1,10 +1,7 @@
 -- `rows::reduce`: each turn divides one place more, from the top of the quotient down.
-use Prim.Native.Nat.{◌-◌}
 use native.Mathlib.Omega.{arith}
-use native.Mathlib.Nat.{mod-lt}
-use lib.ListN.{length, length-take}
-use Rattle.rows.proofs.Bounds.{declared-minus, below-drop, below-take}
-use Rattle.rows.proofs.Work.{work_first, work_more, work-last, part_end, part_length}
+use Rattle.rows.proofs.Bounds.{declared-minus}
+use Rattle.rows.proofs.Work.{work_first, work_more, work-last}
 use Rattle.rows.proofs.reduce.Goals as goal
 
 pub loop-k-init : goal.loop-k-init

@@ -1,7 +1,5 @@
 -- `rows::subtract`: the places passed are worked out.
-use Rattle.std.proofs.Common.{ap, arith, ◌∙◌}
-use Rattle.std.proofs.Math.Seq.{take_all}
-use Rattle.euclid.specs.Division.{less}
+use Rattle.std.proofs.Common.{arith}
 use Rattle.rows.proofs.Places.{less_none, less-read, less-more}
 use Rattle.rows.proofs.subtract.Goals as goal
 

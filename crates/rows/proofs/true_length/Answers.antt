@@ -1,5 +1,5 @@
 -- `rows::true_length`: by the last entry that is not 0.
-use Rattle.std.proofs.Common.{rules, sym}
+use Rattle.std.proofs.Common.{rules}
 use Rattle.rows.proofs.Trim.{trim-last, trim_zeros}
 use Rattle.rows.proofs.true_length.Goals as goal
 

@@ -1,24 +1,14 @@
--- `stream::next_record`: a body has at most seven bytes, and they come after the kind's.
-use Rattle.std.proofs.Common.{arith, ◌≡◌, ◌∙◌, ap, take, ℕ, subst}
-use mathlib.Core.List.{List}
-use Rattle.std.specs.Io.KnownBytes.{Consumes}
+-- `stream::next_record`: a body has seven bytes at most.
+use Rattle.std.proofs.Common.{arith, ap, ◌∙◌, ◌++◌, length, length-append}
+use lib.ListN.{drop, get_or}
+use lib.Seq.{length-take-le}
 use Rattle.decks.specs.StepLaws.{body_low}
-use Rattle.stream.specs.Arrival.{bytes_of}
-use Rattle.stream.proofs.Bytes.{consumes_more, first_byte}
 use Rattle.stream.proofs.next_record.Goals as goal
 
-pub fill-rest-requires : goal.fill-rest-requires
-fill-rest-requires g c = rw c.body_length.ensures (body_low _)
-
-pub returns-then-head-eq0-clause-bytes : goal.returns-then-head-eq0-clause-bytes
-unfolding bytes_of
-returns-then-head-eq0-clause-bytes g c = rw c.if-head-eq0.true at c.fill-head.ensures.bytes
-
-pub returns-clause-bytes : goal.returns-clause-bytes
-unfolding bytes_of
-returns-clause-bytes g c =
-    let one : c.fill-head.result.count ≡ 1 = omega (arith, c.fill-head.ensures.fills.few) in
-    let kind = ap (λ (n : ℕ). take n c.fill-head.new.body) one ∙ first_byte c.fill-head.new.body c.fill-head.auto.body in
-    let left = g.R.Read.remaining in
-    let first = subst (λ (t : List ℕ). Consumes (left c.args.input.now) (left c.fill-head.new.input) t) kind c.fill-head.ensures.bytes in
-    consumes_more (left c.args.input.now) (left c.fill-head.new.input) (left c.fill-rest.new.input) _ _ first c.fill-rest.ensures.bytes
+pub returns-in-Ok-clause-arrives : goal.returns-in-Ok-clause-arrives
+returns-in-Ok-clause-arrives g c =
+    let whole = c.fill-2.new.body in
+    let room = c.truncate.new.self.items in
+    length-take-le (length room) (whole ++ drop (length whole) room)
+    (omega (arith, c.fill-2.auto.body, ap length c.as_mut_slice.ensures.value, length-append whole (drop (length whole) room)))
+    ∙ (omega (arith, c.truncate.ensures.len, c.from-body.ensures.1, c.body_length.ensures, body_low (get_or c.fill.new.body 0 0)))
