@@ -4,15 +4,13 @@
 --   counted-take, counted_skip         the number of usable points after one point more: usable, not usable
 --   counting                           these, for the loop
 --   passed-skip                        the usable points do not change over a point that is not usable
-use Prim.Native.Nat.{ℕ, ◌+◌, ◌≤◌}
+use Prim.Native.Nat.{ℕ, ◌+◌}
 use native.Mathlib.Numerals.{add-one}
 use native.Mathlib.Omega.{arith}
 use mathlib.Core.Bool.{true, false}
 use mathlib.Core.List.{[], ◌∷◌}
 use mathlib.Core.Path.{◌≡◌, refl, sym, ap, ◌∙◌}
-use lib.Dec.{leb}
 use lib.ListN.{length, length-append}
-use borrow.Author.Tests.{le-leb}
 use Rattle.scope.specs.Pair.{Pair}
 use Rattle.scope.specs.Point.{usable, usables}
 use Rattle.points.specs.Usables.{usables-skip, usables-take, usables_more}

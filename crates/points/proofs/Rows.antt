@@ -7,20 +7,19 @@
 use Prim.Native.Nat.{ℕ, suc, ◌+◌, ◌*◌, ◌<◌, ◌≤◌}
 use native.Mathlib.Numerals.{add-one}
 use native.Mathlib.Omega.{arith}
-use mathlib.Core.Bool.{Bool, true, false, cond, not, ◌&&◌}
+use mathlib.Core.Bool.{Bool, true, false, cond}
 use mathlib.Core.List.{List}
 use mathlib.Core.Path.{◌≡◌, sym, ap, ◌∙◌}
 use lib.ListN.{length, get_or, take, drop, length-drop}
 use Rattle.std.proofs.Common.{length-take-le}
 use lib.Seq.{get_or-drop}
 use Rattle.std.proofs.lemmas.List.{get_or-take}
-use lib.Dec.{eqb}
-use borrow.Author.Tests.{le-leb, ne_eqb}
+use borrow.Author.Tests.{le-leb}
 use Rattle.ring.specs.Ring.{Ring}
 use Rattle.residue.specs.Residue.{residues, res, val, res-zero}
 use Rattle.polynomial.specs.Value.{value, value_ext, value_more}
-use Rattle.scope.specs.Pair.{place, term, tables, occurs, polynomial}
-use Rattle.scope.specs.Point.{tabulate, value_at, row_at, usable}
+use Rattle.scope.specs.Pair.{place, term, occurs, polynomial}
+use Rattle.scope.specs.Point.{tabulate, value_at, row_at}
 use Rattle.points.specs.Table.{IsTable}
 use Rattle.points.specs.Step.{value_of}
 use Rattle.points.proofs.Stores.{Stored, stored_all}

@@ -11,11 +11,10 @@
 --   front_length           its length
 --   tabulate_ext           equal entries, equal lists
 use Prim.Native.Nat.{ℕ, zero, suc, ◌+◌, ◌-◌, ◌<◌, ◌≤◌}
-use native.Mathlib.Decide.{ℕ_discrete}
 use native.Mathlib.Omega.{arith}
 use mathlib.Core.List.{List, ◌∷◌, ◌++◌}
 use mathlib.Core.Path.{◌≡◌, refl, sym, ap, ap₂, ◌∙◌}
-use lib.ListN.{length, get_or, drop, set, length-append, length-drop, length-set, get_or-append}
+use lib.ListN.{length, get_or, drop, set, length-set, get_or-append}
 use Rattle.std.proofs.lemmas.Grind.{common_steps}
 use lib.Seq.{get_or-append-add, get_or-drop, ext_get_or}
 use Rattle.scope.specs.Point.{tabulate}
@@ -36,7 +35,7 @@ front_old f n l i h =
     ∙ ap (λ (j : ℕ). get_or l j 0) back
 
 pub front_length : (f : ℕ → ℕ) (n : ℕ) (l : List ℕ) → n ≤ length l → length (tabulate n f ++ drop n l) ≡ length l
-front_length f n l h = rw (length-append (tabulate n f) (drop n l), tabulate-length n f, length-drop n l) (omega arith)
+front_length f n l h = grind (arith, common_steps, tabulate-length n f)
 
 pub tabulate_ext : (n : ℕ) (f g : ℕ → ℕ) → ((k : ℕ) → k < n → f k ≡ g k) → tabulate n f ≡ tabulate n g
 unfolding tabulate

@@ -1,6 +1,5 @@
 -- `points::power_occurs`: each turn looks at one row.
 use native.Mathlib.Omega.{arith}
-use borrow.Author.Count.{below_more}
 use Rattle.points.proofs.Rows.{occurs_here, occurs_nowhere}
 use Rattle.points.proofs.power_occurs.Goals as goal
 

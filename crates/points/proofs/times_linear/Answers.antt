@@ -2,7 +2,7 @@
 -- still those that came in.
 use native.Mathlib.Omega.{arith}
 use mathlib.Core.Path.{refl}
-use Rattle.points.proofs.Stores.{stored_none, stored_down, stored_all, kept-below}
+use Rattle.points.proofs.Stores.{stored_down, stored_all}
 use Rattle.points.proofs.Linear.{linear_above, linear_first}
 use Rattle.points.proofs.times_linear.Goals as goal
 

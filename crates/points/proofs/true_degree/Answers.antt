@@ -1,7 +1,7 @@
 -- `points::true_degree`: each turn rules out one power, from the top down.
 use native.Mathlib.Omega.{arith}
 use mathlib.Core.Path.{◌∙◌, sym}
-use Rattle.points.proofs.Searches.{above_first, above-next, above_found, above_none}
+use Rattle.points.proofs.Searches.{above_found, above_none}
 use Rattle.points.proofs.true_degree.Goals as goal
 
 pub returns-then-power_occurs : goal.returns-then-power_occurs

@@ -1,6 +1,5 @@
 -- `points::Table::row_at`: each turn writes the value of one row.
 use native.Mathlib.Omega.{arith}
-use Rattle.points.proofs.Stores.{stored_none, stored_up}
 use Rattle.points.proofs.Rows.{row-stored}
 use Rattle.points.proofs.Table.row_at.Goals as goal
 
