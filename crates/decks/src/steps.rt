@@ -128,7 +128,9 @@ impl FitDeck {
         requires { self.now.state.stage ≡ Opened }
         ensures { result.job ≡ self.now.state.job }
     {
-        SoundJob { job: self.state.job }
+        SoundJob {
+            job: self.state.job,
+        }
     }
 
     // Offers a point to the open job.
