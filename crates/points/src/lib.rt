@@ -87,6 +87,7 @@ impl Table<'_> {
 
 // Whether the leading rows of both tables are nonzero at y. It and what it calls ask of p only that it is not 0, as
 // docs/PROMISES.md names it; so they take the number and not a prime modulus.
+#[tactic(auto, unfolding(scope::specs::Point::usable, scope::specs::Pair::tables))]
 pub fn usable_at(p: u32, a: Table, b: Table, y: u32) -> bool
     requires { 0 < p }
     ensures { result ≡ usable (tables p a.entry.m 16 b.entry.m 16 a.entry.entries.now b.entry.entries.now) y }
@@ -135,6 +136,7 @@ impl Pair<'_> {
     }
 
     // Whether at least `wanted` points below p are usable; it stops as soon as so many are found
+    #[tactic(auto, using(crate::proofs::Counting::counting))]
     pub fn has_usable(self, wanted: usize) -> bool
         ensures { result ≡ leb wanted (length (usables (pair_at self.entry) self.entry.p.value)) }
     {

@@ -1,7 +1,7 @@
 -- The rows of a table of degree 16 in y, up to and with the leading one.
 --
 --   front_lead      they have the table's leading row
-use Rattle.std.proofs.Common.{ℕ, ◌+◌, ◌*◌, ◌≤◌, not, List, ◌≡◌, sym, ap, ◌∙◌, arith, eqb, get_or, take, get_or-take}
+use Rattle.std.proofs.Common.{ℕ, ◌+◌, ◌*◌, not, List, ◌≡◌, sym, ap, ◌∙◌, arith, eqb, take, get_or-take}
 use native.Mathlib.Decide.{dec_le}
 use mathlib.Core.Path.{fun_ext}
 use Rattle.scope.specs.Pair.{place, term, some}
