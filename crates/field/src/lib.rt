@@ -101,7 +101,7 @@ pub fn mul(p: u32, a: u32, b: u32) -> u32
     requires { 0 < p }
     ensures { result ≡ (a * b) % p }
 {
-    ((a as u64) * (b as u64) % (p as u64)) as u32
+    mul_add(p, a, b, 0)
 }
 
 // a * b + c modulo p, with one remainder, for any a, b and c
