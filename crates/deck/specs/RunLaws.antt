@@ -44,47 +44,57 @@ use Rattle.deck.specs.declared.Failure.{Failure}
 use Rattle.deck.specs.declared.Failure.TheVariants.{Read, Write, Records}
 use Rattle.deck.specs.declared.Run.{Run}
 use Rattle.deck.specs.declared.Ending.{Ending}
-use Rattle.deck.specs.Run.{told, past, Place, start, on, Turns, Unread, Takes, Turned, Ran, delivered, Unfailed, Played}
+use Rattle.deck.specs.Run.{told, past, Place, start, on, Turns, Unread, Goes, Takes, Turned, Ran, delivered, Unfailed, Played}
 
 clash : {X : Type 0} {t : Bool} → t ≡ true → t ≡ false → X
 clash p q = let z : ◌≡◌ {A = ℕ} 0 1 = cc in absurd (omega arith)
+
+module _ (run : Run) (a : Arrival) where
+  -- a failed read
+  unread_takes : (text : List ℕ) → (told run.deck.state run.offset a).state ≡ run.deck.state → past a ≡ 0 → Unread a → Takes run a run text (Err Read)
+  unread_takes text s p u = record {
+    goes = record { state = sym s; offset = omega (arith, p) };
+    halt = λ stops e. cc;
+    line = λ stops e. cc;
+    unread = (λ _. u, λ _. refl);
+    only = λ e. cc;
+    lasts = λ e. cc;
+  }
+
+  -- the end of input, or a record
+  read_takes : (run' : Run) (text : List ℕ) (stops : Bool) → Goes run a run' → stops ≡ (told run.deck.state run.offset a).halt
+      → text ≡ (told run.deck.state run.offset a).text → (Unread a → ⊥) → Takes run a run' text (Ok stops)
+  read_takes run' text stops g h t n = record {
+    goes = g;
+    halt = λ other e. let same : other ≡ stops = cc in same ∙ h;
+    line = λ _ _. t;
+    unread = (λ e. cc, λ u. absurd (n u));
+    only = λ e. cc;
+    lasts = λ e. cc;
+  }
 
 module _ (run : Run) where
   pub takes_unread : (a : Arrival) (text : List ℕ) → Unread a → Takes run a run text (Err Read)
   unfolding told past
   takes_unread (Whole r) text u = cc
   takes_unread (Cut r Ended) text u = cc
-  takes_unread (Cut r Failed) text u = record { goes = record { state = refl; offset = omega arith }; halt = λ stops e. cc; line = λ stops e. cc; unread = (λ _. u, λ _. refl); only = λ e. cc; lasts = λ e. cc }
+  takes_unread (Cut r Failed) text u = unread_takes run (Cut r Failed) text refl refl u
   takes_unread (Nothing Ended) text u = cc
-  takes_unread (Nothing Failed) text u = record { goes = record { state = refl; offset = omega arith }; halt = λ stops e. cc; line = λ stops e. cc; unread = (λ _. u, λ _. refl); only = λ e. cc; lasts = λ e. cc }
+  takes_unread (Nothing Failed) text u = unread_takes run (Nothing Failed) text refl refl u
 
   pub takes_end : (a : Arrival) (text : List ℕ) → a ≡ Nothing Ended → text ≡ line end_word [] → Takes run a run text (Ok true)
   unfolding told past
-  takes_end a text n e = rw n (record { goes = record { state = refl; offset = omega arith }; halt = λ stops e. cc; line = λ stops _. e; unread = (λ e. cc, λ e. cc); only = λ e. cc; lasts = λ e. cc })
+  takes_end a text n e = rw n (read_takes run (Nothing Ended) run text true (record { state = refl; offset = omega arith }) refl e (λ u. cc))
 
   module _ (run' : Run) (r : Record) (text : List ℕ) (stops : Bool) (s : Steps (stepped run.deck.state r.kind r.body.items run.offset) run'.deck.state stops text)
-      (o : run'.offset ≡ run.offset + (1 + body_length r.kind)) where
-    pub takes_whole : (a : Arrival) → a ≡ Whole r → Takes run a run' text (Ok stops)
+      (o : run'.offset ≡ run.offset + (1 + body_length r.kind)) (a : Arrival) where
+    pub takes_whole : a ≡ Whole r → Takes run a run' text (Ok stops)
     unfolding told past
-    takes_whole a e = rw e (record {
-      goes = record { state = s.state; offset = o };
-      halt = λ n e. let same : n ≡ stops = cc in same ∙ s.halted;
-      line = λ _ _. s.line;
-      unread = (λ e. cc, λ e. cc);
-      only = λ e. cc;
-      lasts = λ e. cc;
-    })
+    takes_whole e = rw e (read_takes run (Whole r) run' text stops (record { state = s.state; offset = o }) s.halted s.line (λ u. cc))
 
-    pub takes_cut : (a : Arrival) → a ≡ Cut r Ended → Takes run a run' text (Ok stops)
+    pub takes_cut : a ≡ Cut r Ended → Takes run a run' text (Ok stops)
     unfolding told past
-    takes_cut a e = rw e (record {
-      goes = record { state = s.state; offset = o };
-      halt = λ n e. let same : n ≡ stops = cc in same ∙ s.halted;
-      line = λ _ _. s.line;
-      unread = (λ e. cc, λ e. cc);
-      only = λ e. cc;
-      lasts = λ e. cc;
-    })
+    takes_cut e = rw e (read_takes run (Cut r Ended) run' text stops (record { state = s.state; offset = o }) s.halted s.line (λ u. cc))
 
 pub told_unread : (d : Deck) (offset : ℕ) (a : Arrival) → Unread a → (told d offset a).halt ≡ true
 unfolding told

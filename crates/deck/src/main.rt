@@ -24,7 +24,7 @@ const TURNS: u64 = u64::MAX / 8;
 type Text = ArrayString<5707>;
 
 // What cuts a run short: a failed read, a failed write, or all its turns spent.
-#[derive(Clone, Copy, PartialEq, Eq, Debug)]
+#[derive(Clone, Copy)]
 enum Failure {
     Read,
     Write,

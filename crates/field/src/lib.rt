@@ -36,6 +36,7 @@ impl Modulus {
         let mut r: u32 = 1;
         let mut base = a;
         let mut left = n;
+        // what is left is halved, not counted, so there is no range to go over
         while left > 0 {
             if left % 2 == 1 {
                 r = mul(self.value, r, base);
@@ -58,6 +59,7 @@ impl Modulus {
         let mut t0: u32 = 0;
         let mut t1: u32 = 1;
         let mut minus = false;
+        // Euclid's algorithm counts nothing
         while r1 > 1 {
             let q = r0 / r1;
             let r2 = r0 - q * r1;
@@ -71,6 +73,9 @@ impl Modulus {
         if minus { self.value - t1 } else { t1 }
     }
 }
+
+// The four that follow, and mul_add, take p as a number, with what they ask of it beside it: `rows::subtract` and
+// `points::usable_at`, which docs/PROMISES.md names, call them with a p of which no more is known.
 
 // a + b modulo p: the sum is made only where it stays below p
 pub fn add(p: u32, a: u32, b: u32) -> u32
@@ -96,7 +101,7 @@ pub fn mul(p: u32, a: u32, b: u32) -> u32
     requires { 0 < p }
     ensures { result ≡ (a * b) % p }
 {
-    ((a as u64) * (b as u64) % (p as u64)) as u32
+    mul_add(p, a, b, 0)
 }
 
 // a * b + c modulo p, with one remainder, for any a, b and c
@@ -126,6 +131,7 @@ pub fn is_prime(p: u32) -> bool
         return false;
     }
     let mut d: u32 = 3;
+    // a range to the square root would need the root first
     while (d as u64) * (d as u64) <= (p as u64) {
         if p % d == 0 {
             return false;

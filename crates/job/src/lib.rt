@@ -21,7 +21,7 @@ pub struct Job {
     pub values: [u32; 513],
 }
 
-// The all-zero record
+// The all-zero record. A derived default would say of the arrays only that their entries are defaults.
 #[tactic(auto, unfolding(crate::specs::Job::blank))]
 impl Default for Job {
     ghost is_default = { λ j. j ≡ blank };
@@ -42,7 +42,7 @@ impl Default for Job {
     }
 }
 
-// What an opening, an offer or a lot answers: the number, and the job afterwards.
+// What an opening, an offer or a lot answers: the number, and the job afterwards. C sees it, so the number is one.
 #[repr(C)]
 #[derive(Clone, Copy)]
 pub struct JobAnswer {
@@ -50,7 +50,7 @@ pub struct JobAnswer {
     pub job: Job,
 }
 
-// What a read or a one-shot answers. wanted: how many points are still wanted, with 14. zero: 1 where the polynomial is zero.
+// What a read or a one-shot answers, as C sees it. wanted: how many points are still wanted, with 14. zero: 1 where the polynomial is zero.
 #[repr(C)]
 #[derive(Clone, Copy)]
 pub struct ReadAnswer {

@@ -10,6 +10,7 @@ ghost use Rattle.kernel.specs.Results.{RowResult, PlainResult, DivisionResult, D
 use checks::{Given, Refusal};
 use job::{Job, JobAnswer, ReadAnswer};
 
+// The answers are records of numbers, since C sees them.
 // value: the resultant. steps: the coefficient steps of the remainder sequence.
 #[repr(C)]
 #[derive(Clone, Copy)]

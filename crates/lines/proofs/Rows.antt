@@ -1,22 +1,20 @@
 -- Numbers after one another.
 --
---   decimal-kit          the kit's decimal digits of a number are those of `Text`
+--   decimal-library      the library's decimal digits of a number are those of `Text`
 --   row_none, row_more   what stands before a row, and after one number more of it
 --   row_room             a row's first numbers and the next one take no more room than the row
 --   row_end, row_width   what stands after a row and the end of its line, and how long the text before the end is
 --   row_short            how long a row is at most, where each number of it has so many digits
---   line-length          how long a line is, and the line of a read
-use Rattle.std.specs.Prelude.{ℕ, zero, suc, ◌+◌, ◌*◌, ◌^◌, ◌≤◌, ◌<◌, Option, List, [], ◌∷◌, ◌++◌, ◌≡◌, length, take, drop, get_or}
+use Rattle.std.specs.Prelude.{ℕ, zero, suc, ◌+◌, ◌*◌, ◌^◌, ◌≤◌, ◌<◌, List, [], ◌∷◌, ◌++◌, ◌≡◌, length, take, drop, get_or}
 use Rattle.std.proofs.Common.{arith, sym, ap, ◌∙◌, add-one, append-nil, append_assoc, length-append, take-append-drop, take-suc, take_all}
 use Rattle.std.specs.Fmt.{decimal as Fmt·decimal}
 use Rattle.std.proofs.lemmas.Fmt.{PrependsLastDigit, decimal_from_prepends, length-decimal-le_succ}
-use Rattle.lines.specs.Text.{digits, decimal, spaced, line}
-use Rattle.lines.specs.Line.{degree_text, read_text}
+use Rattle.lines.specs.Text.{digits, decimal, spaced}
 use Rattle.lines.specs.TextLaws.{digits_last, digits_more, spaced-on, spaced-one}
 
-pub decimal-kit : (n : ℕ) → n < 2 ^ 64 → Fmt·decimal n ≡ decimal n
+pub decimal-library : (n : ℕ) → n < 2 ^ 64 → Fmt·decimal n ≡ decimal n
 unfolding decimal
-decimal-kit n h =
+decimal-library n h =
     let own : PrependsLastDigit digits = record { one = digits_last; more = digits_more } in
     sym (append-nil (Fmt·decimal n)) ∙ sym (decimal_from_prepends digits own (suc n) n [] h (omega (arith, length-decimal-le_succ n h)))
 
@@ -57,15 +55,6 @@ pub row_short : (d : ℕ) (row : List ℕ) → ((k : ℕ) → length (decimal (g
 unfolding spaced
 row_short d [] h = omega arith
 row_short d (n ∷ row) h = omega (arith, length-append (decimal n) (spaced row), h zero, row_short d row (λ k. h (suc k)))
-
-pub line-length : (word ns : List ℕ) → length (line word ns) ≡ length word + length (spaced ns) + 1
-unfolding line
-line-length word ns = omega (arith, length-append word (spaced ns ++ 10 ∷ []), length-append (spaced ns) (10 ∷ []))
-
-pub read_text-length : (degree : Option ℕ) (entries : List ℕ)
-    → length (read_text degree entries) ≡ 7 + length (degree_text degree) + length (spaced entries) + 1
-unfolding read_text
-read_text-length degree entries = omega (arith, length-append (degree_text degree) (spaced entries ++ 10 ∷ []), length-append (spaced entries) (10 ∷ []))
 
 -- a row, whole, and the end of its line
 pub row_end : (before row : List ℕ) (i : ℕ) {out after : List ℕ} → out ≡ before ++ spaced (take i row) → length row ≤ i → after ≡ out ++ 10 ∷ []

@@ -1,12 +1,10 @@
--- A point looked for among those kept, and the number that it is answered.
+-- The number that a point offered to a sound job is answered, by the tests that the code makes.
 --
---   searched, tested       so what the search of a lent slice, and the test of a lent pair, say
---   number_large           the number of a point that is not below p, number_repeated: of one that is kept
---   number_unusable        of one that is not usable
---   number_good            of any other
-use Rattle.std.proofs.Common.{ℕ, ◌<◌, ◌≤◌, Bool, true, false, List, ◌≡◌, refl, sym, ap, ◌∙◌, eqb}
-use Rattle.std.specs.List.{list_any}
-use Rattle.std.proofs.lemmas.Bool.{le-leb, lt-leb}
+--   admitted       a refusal of the point, in the scope's order, or none
+--   usable_lent    a point is usable to the lent pair where it is to the job's
+--   admitting      these, for the tests in turn
+use Rattle.std.proofs.Common.{ℕ, Bool, true, false, cond, not, ◌≡◌, refl, ap, leb}
+use Rattle.std.proofs.lemmas.Bool.Decides.{nat_tests}
 use Rattle.scope.specs.Point.{usable}
 use Rattle.scope.specs.Number.{◌gives◌otherwise◌, among, point_number}
 use Rattle.points.specs.declared.Pair.{Pair}
@@ -16,26 +14,19 @@ use Rattle.job.specs.Job.{pair_of, kept_points}
 use Rattle.offers.specs.Lent.{IsPairOf, lent_pair}
 use Rattle.offers.specs.Among.{among_any}
 
-pub searched : (a : ℕ) {s points : List ℕ} {b t : Bool} → b ≡ list_any (λ y. eqb y a) s → s ≡ points → b ≡ t → among a points ≡ t
-searched a {s} e same h = sym (e ∙ sym (among_any a s) ∙ ap (among a) same) ∙ h
+in_turn : (large among on : Bool) → (large gives 10 otherwise among gives 12 otherwise not on gives 11 otherwise 0) ≡ cond large 10 (cond among 12 (cond on 0 11))
+unfolding ◌gives◌otherwise◌
+in_turn true among on = refl
+in_turn false true on = refl
+in_turn false false true = refl
+in_turn false false false = refl
 
-pub tested : (a : ℕ) {j : Job} {P : Pair} {b t : Bool} → IsPairOf j P → b ≡ usable (pair_at P) a → b ≡ t → usable (pair_of j) a ≡ t
-tested a h e at = sym (e ∙ ap (λ Q. usable Q a) (lent_pair h)) ∙ at
+pub admitted : (j : Job) (a : ℕ)
+    → point_number (pair_of j) (kept_points j) a ≡ cond (leb j.p a) 10 (cond (among a (kept_points j)) 12 (cond (usable (pair_of j) a) 0 11))
+unfolding point_number pair_of
+admitted j a = in_turn (leb j.p a) (among a (kept_points j)) (usable (pair_of j) a)
 
--- the tests in the scope's order; each test is what the code found
-module _ (j : Job) (a : ℕ) where
-  pub number_large : j.p ≤ a → 10 ≡ point_number (pair_of j) (kept_points j) a
-  unfolding point_number ◌gives◌otherwise◌ pair_of
-  number_large h = rw (le-leb j.p a h) refl
+pub usable_lent : (j : Job) (P : Pair) (a : ℕ) → IsPairOf j P → usable (pair_at P) a ≡ usable (pair_of j) a
+usable_lent j P a h = ap (λ Q. usable Q a) (lent_pair h)
 
-  pub number_repeated : a < j.p → among a (kept_points j) ≡ true → 12 ≡ point_number (pair_of j) (kept_points j) a
-  unfolding point_number ◌gives◌otherwise◌ pair_of
-  number_repeated h here = rw (lt-leb j.p a h, here) refl
-
-  pub number_unusable : a < j.p → among a (kept_points j) ≡ false → usable (pair_of j) a ≡ false → 11 ≡ point_number (pair_of j) (kept_points j) a
-  unfolding point_number ◌gives◌otherwise◌ pair_of
-  number_unusable h new off = rw (lt-leb j.p a h, new, off) refl
-
-  pub number_good : a < j.p → among a (kept_points j) ≡ false → usable (pair_of j) a ≡ true → 0 ≡ point_number (pair_of j) (kept_points j) a
-  unfolding point_number ◌gives◌otherwise◌ pair_of
-  number_good h new on = rw (lt-leb j.p a h, new, on) refl
+pub ruleset admitting = (nat_tests, admitted, among_any, usable_lent)

@@ -5,9 +5,8 @@
 --   front_different    the entries of the front of the points are different points
 --   interpolated       what interpolation leaves is the interpolant
 --   table-agrees       comparing its value with the kept one says whether the point agrees
-use Rattle.std.proofs.Common.{ℕ, ◌<◌, ◌≤◌, List, ◌≡◌, arith, sym, ap, ap₂, ◌∙◌, eqb, length, get_or, take, length-take, get_or-take}
-use Rattle.std.proofs.Math.Decide.{dec_lt}
-use Rattle.std.proofs.lemmas.List.{get_or_past}
+use Rattle.std.proofs.Common.{ℕ, ◌<◌, ◌≤◌, List, ◌≡◌, arith, sym, ap, ap₂, ◌∙◌, eqb, length, get_or, take, get_or-take}
+use Rattle.std.proofs.lemmas.Grind.{common_steps}
 use mathlib.Core.Path.{fun_ext}
 use Rattle.residue.specs.Residue.{residues, res, val, res-val}
 use Rattle.residue.specs.Inverse.{inv}
@@ -25,10 +24,7 @@ use Rattle.job.specs.Complete.{kept-below}
 
 -- a list that is 0 from n on reads as its front does
 front_reads : (n : ℕ) (l : List ℕ) → ((i : ℕ) → n ≤ i → get_or l i 0 ≡ 0) → (i : ℕ) → get_or (take n l) i 0 ≡ get_or l i 0
-front_reads n l rest i = elim (dec_lt i n) [
-  | yes a ↦ get_or-take n l i 0 a
-  | no a ↦ get_or_past (take n l) i 0 (omega (arith, length-take n l)) ∙ sym (rest i (omega arith))
-]
+front_reads n l rest i = grind (arith, common_steps, rest i)
 
 module _ (j : Job) (s : Standing j) where
   pub value-below : (i : ℕ) → i < j.count → get_or j.values i 0 < j.p
@@ -38,7 +34,7 @@ module _ (j : Job) (s : Standing j) where
       omega (arith, s.value-kept i l)
 
   pub front_below : {p n : ℕ} → p ≡ j.p → n ≡ j.count → (i : ℕ) → i < n → get_or (take j.count j.values) i 0 < p
-  front_below ep en i l = omega (arith, get_or-take j.count j.values i 0 (omega arith), value-below i (omega arith))
+  front_below ep en i l = grind (arith, common_steps, value-below i)
 
   pub front_different : {p n : ℕ} {points : List ℕ} → p ≡ j.p → n ≡ j.count → points ≡ kept_points j → Different p n (λ i. get_or points i 0)
   unfolding kept_points

@@ -65,7 +65,7 @@ pub struct SoundJob {
 
 impl SoundJob {
     // Its two polynomials
-    pub fn pair(&self) -> Pair<'_>
+    fn pair(&self) -> Pair<'_>
         ensures { IsPairOf self.now.job result }
     {
         lend(&self.job)
@@ -79,6 +79,7 @@ impl SoundJob {
     }
 
     // The points kept
+    #[tactic(auto, using(crate::proofs::Record::room), unfolding(job::specs::Job::kept_points))]
     fn points(&self) -> &[u32]
         ensures { result.now ≡ kept_points self.now.job }
     {
@@ -86,6 +87,7 @@ impl SoundJob {
     }
 
     // Whether a point would be kept while points are wanted: 10, 12 and 11 refuse it
+    #[tactic(auto, using(crate::proofs::Points::admitting))]
     fn admit(&self, a: u32) -> Result<(), Refusal>
         ensures { outcome result ≡ point_number (pair_of self.now.job) (kept_points self.now.job) a }
     {
@@ -102,6 +104,7 @@ impl SoundJob {
     }
 
     // The coefficients of the polynomial through the kept pairs, lowest first
+    #[tactic(auto, using(crate::proofs::Record::room))]
     pub fn interpolate(&self, out: &mut [u32])
         requires full { self.now.job.count ≡ needed (pair_of self.now.job) }
         requires room { length out.old ≡ self.now.job.count }
@@ -112,6 +115,7 @@ impl SoundJob {
     }
 
     // Whether that polynomial takes the value at a that would be kept there
+    #[tactic(auto, using(crate::proofs::Record::room))]
     pub fn agrees(&self, a: u32) -> bool
         requires { self.now.job.count ≡ needed (pair_of self.now.job) }
         ensures { result ≡ Calls.agrees self.now.job a }
@@ -123,6 +127,7 @@ impl SoundJob {
     }
 
     // A single offer: a usable new point is kept with its value while points are wanted
+    #[tactic(auto, using(crate::proofs::Numbers::offering), unfolding(job::specs::Job::stored))]
     pub fn offer(&mut self, a: u32) -> Result<Offer, Refusal>
         ensures number { answer_of result ≡ Calls.offer_number self.old.job a }
         ensures job { self.new.job ≡ Calls.offered self.old.job a }

@@ -3,25 +3,23 @@
 --   term_at       a term of a table of 289 entries is the entry at 17 i + j
 --   row-value     the value of a row up to the largest power that occurs is the value of the whole row
 --   row-stored    the values of the rows 0 to m, stored one by one
---   first-zero, first-nonzero         whether a point is usable, by the value of the first leading row
 --   occurs_here, occurs_nowhere       whether a power of y occurs, by the entries
 use Prim.Native.Nat.{ℕ, suc, ◌+◌, ◌*◌, ◌<◌, ◌≤◌}
 use native.Mathlib.Numerals.{add-one}
 use native.Mathlib.Omega.{arith}
-use mathlib.Core.Bool.{Bool, true, false, cond, not, ◌&&◌}
+use mathlib.Core.Bool.{Bool, true, false, cond}
 use mathlib.Core.List.{List}
 use mathlib.Core.Path.{◌≡◌, sym, ap, ◌∙◌}
 use lib.ListN.{length, get_or, take, drop, length-drop}
 use Rattle.std.proofs.Common.{length-take-le}
 use lib.Seq.{get_or-drop}
 use Rattle.std.proofs.lemmas.List.{get_or-take}
-use lib.Dec.{eqb}
-use borrow.Author.Tests.{le-leb, ne_eqb}
+use borrow.Author.Tests.{le-leb}
 use Rattle.ring.specs.Ring.{Ring}
 use Rattle.residue.specs.Residue.{residues, res, val, res-zero}
 use Rattle.polynomial.specs.Value.{value, value_ext, value_more}
-use Rattle.scope.specs.Pair.{place, term, tables, occurs, polynomial}
-use Rattle.scope.specs.Point.{tabulate, value_at, row_at, usable}
+use Rattle.scope.specs.Pair.{place, term, occurs, polynomial}
+use Rattle.scope.specs.Point.{tabulate, value_at, row_at}
 use Rattle.points.specs.Table.{IsTable}
 use Rattle.points.specs.Step.{value_of}
 use Rattle.points.proofs.Stores.{Stored, stored_all}
@@ -56,18 +54,6 @@ pub row-stored : (p m a : ℕ) (A : ℕ → ℕ → ℕ) {i : ℕ} {l k : List �
     → k ≡ row_at p m 16 A a
 unfolding row_at
 row-stored p m a A h e long = stored_all (λ r. value_at p 16 A r a) h e ∙ ap (λ (n : ℕ). tabulate n (λ r. value_at p 16 A r a)) (long ∙ add-one m)
-
-module _ (p m n : ℕ) (s t : List ℕ) (a : ℕ) {u : ℕ} (at : u ≡ value_at p 16 (term 16 s) m a) where
-  pub first-zero : u ≡ 0 → not (eqb u 0) ≡ usable (tables p m 16 n 16 s t) a
-  unfolding usable tables
-  first-zero z = ap (λ (x : ℕ). not (eqb x 0)) z ∙ sym (ap (λ (x : ℕ). not (eqb x 0) && not (eqb (value_at p 16 (term 16 t) n a) 0)) (sym at ∙ z))
-
-  pub first-nonzero : (u ≡ 0 → ⊥) → {v : ℕ} → v ≡ value_at p 16 (term 16 t) n a → not (eqb v 0) ≡ usable (tables p m 16 n 16 s t) a
-  unfolding usable tables
-  first-nonzero some {v} too =
-      sym (ap (λ (x : ℕ). not (eqb x 0) && not (eqb (value_at p 16 (term 16 t) n a) 0)) (sym at)
-      ∙ ap (λ (b : Bool). not b && not (eqb (value_at p 16 (term 16 t) n a) 0)) (ne_eqb u 0 some)
-      ∙ ap (λ (x : ℕ). not (eqb x 0)) (sym too))
 
 module _ (t : List ℕ) (m j : ℕ) (low : j ≤ 16) where
   pub occurs_here : (i : ℕ) → i ≤ m → (get_or t (i * 17 + j) 0 ≡ 0 → ⊥) → true ≡ occurs m (term 16 t) j

@@ -9,7 +9,7 @@
 --   above_found       j passes: it is the largest
 --   above_none        nothing is left but 0
 use Prim.Native.Nat.{ℕ, ◌-◌, ◌<◌, ◌≤◌}
-use native.Mathlib.Decide.{ℕ_discrete}
+use Rattle.std.proofs.lemmas.Grind.{common_steps}
 use native.Mathlib.Omega.{arith}
 use mathlib.Core.Bool.{Bool, true, false, not, cond}
 use mathlib.Core.List.{List}
@@ -39,7 +39,7 @@ module _ (e : ℕ) (o : ℕ → Bool) where
   above-next {j} h some at =
       record {
         within = omega (arith, h.within);
-        fails = λ k b l. elim (ℕ_discrete k j) [ yes q ↦ ap o q ∙ at | no q ↦ h.fails k b (omega arith) ];
+        fails = λ k b l. grind (arith, common_steps, h.fails k b);
       }
 
   pub above_found : {j : ℕ} → Above j → o j ≡ true → j ≡ largest e o

@@ -11,12 +11,12 @@
 --   front_length           its length
 --   tabulate_ext           equal entries, equal lists
 use Prim.Native.Nat.{ℕ, zero, suc, ◌+◌, ◌-◌, ◌<◌, ◌≤◌}
-use native.Mathlib.Decide.{ℕ_discrete}
 use native.Mathlib.Omega.{arith}
 use mathlib.Core.List.{List, ◌∷◌, ◌++◌}
 use mathlib.Core.Path.{◌≡◌, refl, sym, ap, ap₂, ◌∙◌}
-use lib.ListN.{length, get_or, drop, set, length-append, length-drop, length-set, get_or-append}
-use lib.Seq.{get_or-set_same, get_or-set_other, get_or-append-add, get_or-drop, ext_get_or}
+use lib.ListN.{length, get_or, drop, set, length-set, get_or-append}
+use Rattle.std.proofs.lemmas.Grind.{common_steps}
+use lib.Seq.{get_or-append-add, get_or-drop, ext_get_or}
 use Rattle.scope.specs.Point.{tabulate}
 use Rattle.scope.specs.Degree.{tabulate-length, tabulate-get_or}
 
@@ -35,7 +35,7 @@ front_old f n l i h =
     ∙ ap (λ (j : ℕ). get_or l j 0) back
 
 pub front_length : (f : ℕ → ℕ) (n : ℕ) (l : List ℕ) → n ≤ length l → length (tabulate n f ++ drop n l) ≡ length l
-front_length f n l h = rw (length-append (tabulate n f) (drop n l), tabulate-length n f, length-drop n l) (omega arith)
+front_length f n l h = grind (arith, common_steps, tabulate-length n f)
 
 pub tabulate_ext : (n : ℕ) (f g : ℕ → ℕ) → ((k : ℕ) → k < n → f k ≡ g k) → tabulate n f ≡ tabulate n g
 unfolding tabulate
@@ -63,21 +63,14 @@ module _ (f : ℕ → ℕ) where
   stored_none j l =
       record { long = refl; new = λ i a b. absurd (omega arith); below = λ i b. refl; above = λ i a. refl }
 
-  -- the entry stored, and the others
-  at_new : (k : List ℕ) (j : ℕ) (v : ℕ) → j < length k → v ≡ f j → (i : ℕ) → i ≡ j → get_or (set k j v) i 0 ≡ f i
-  at_new k j v b e i q = ap (λ (n : ℕ). get_or (set k j v) n 0) q ∙ get_or-set_same k j v 0 b ∙ e ∙ ap f (sym q)
-
   pub stored_up : {lo hi : ℕ} {l k : List ℕ} {v : ℕ} → Stored f lo hi l k → lo ≤ hi → hi < length l → v ≡ f hi
       → Stored f lo (hi + 1) l (set k hi v)
   stored_up {lo} {hi} {l} {k} {v} h order room e =
       record {
         long = length-set k hi v ∙ h.long;
-        new = λ i a b. elim (ℕ_discrete i hi) [
-          | yes q ↦ at_new k hi v (omega (arith, h.long)) e i q
-          | no q ↦ get_or-set_other k hi i v 0 q ∙ h.new i a (omega arith)
-        ];
-        below = λ i b. get_or-set_other k hi i v 0 (omega arith) ∙ h.below i b;
-        above = λ i a. get_or-set_other k hi i v 0 (omega arith) ∙ h.above i (omega arith);
+        new = λ i a b. grind (arith, common_steps, h.new i, h.long);
+        below = λ i b. grind (arith, common_steps, h.below i b);
+        above = λ i a. grind (arith, common_steps, h.above i);
       }
 
   pub stored_down : {lo hi : ℕ} {l k : List ℕ} {v : ℕ} (j : ℕ) → Stored f lo hi l k → lo ≡ suc j → lo ≤ hi → hi ≤ length l → v ≡ f j
@@ -85,12 +78,9 @@ module _ (f : ℕ → ℕ) where
   stored_down {lo} {hi} {l} {k} {v} j h at order room e =
       record {
         long = length-set k j v ∙ h.long;
-        new = λ i a b. elim (ℕ_discrete i j) [
-          | yes q ↦ at_new k j v (omega (arith, h.long)) e i q
-          | no q ↦ get_or-set_other k j i v 0 q ∙ h.new i (omega arith) b
-        ];
-        below = λ i b. get_or-set_other k j i v 0 (omega arith) ∙ h.below i (omega arith);
-        above = λ i a. get_or-set_other k j i v 0 (omega arith) ∙ h.above i a;
+        new = λ i a b. grind (arith, common_steps, h.new i, h.long);
+        below = λ i b. grind (arith, common_steps, h.below i);
+        above = λ i a. grind (arith, common_steps, h.above i);
       }
 
   -- every entry, so the list itself

@@ -2,7 +2,7 @@
 --
 --   row_is         a row at a point is what the determinant asks for
 --   rows-kept      the determinant of the two is the value kept
-use Rattle.std.proofs.Common.{ℕ, ◌+◌, ◌≤◌, List, length, ◌≡◌, arith, add-one, sym, ap, ap₂, ◌∙◌, subst}
+use Rattle.std.proofs.Common.{ℕ, ◌+◌, ◌≤◌, List, length, ◌≡◌, arith, add-one, sym, ap₂, ◌∙◌, subst}
 use Rattle.residue.specs.Residue.{val}
 use Rattle.euclid.specs.Row.{row_determinant}
 use Rattle.scope.specs.Pair.{term, tables}

@@ -85,7 +85,9 @@ impl Table<'_> {
     }
 }
 
-// Whether the leading rows of both tables are nonzero at y
+// Whether the leading rows of both tables are nonzero at y. It and what it calls ask of p only that it is not 0, as
+// docs/PROMISES.md names it; so they take the number and not a prime modulus.
+#[tactic(auto, unfolding(scope::specs::Point::usable, scope::specs::Pair::tables))]
 pub fn usable_at(p: u32, a: Table, b: Table, y: u32) -> bool
     requires { 0 < p }
     ensures { result ≡ usable (tables p a.entry.m 16 b.entry.m 16 a.entry.entries.now b.entry.entries.now) y }
@@ -134,6 +136,7 @@ impl Pair<'_> {
     }
 
     // Whether at least `wanted` points below p are usable; it stops as soon as so many are found
+    #[tactic(auto, using(crate::proofs::Counting::counting))]
     pub fn has_usable(self, wanted: usize) -> bool
         ensures { result ≡ leb wanted (length (usables (pair_at self.entry) self.entry.p.value)) }
     {
@@ -151,27 +154,27 @@ impl Pair<'_> {
 }
 
 // out + c * t modulo p, entry by entry of out
-fn add_multiple(p: u32, c: u32, t: &[u32], out: &mut [u32])
-    requires p_nonzero { 0 < p }
+fn add_multiple(p: Modulus, c: u32, t: &[u32], out: &mut [u32])
     requires as_long { length out.old ≤ length t.now }
-    ensures { out.new ≡ tabulate (length out.old) (plus_multiple p c t.now out.old) }
+    ensures { out.new ≡ tabulate (length out.old) (plus_multiple p.value c t.now out.old) }
 {
+    // a `zip` with `iter_mut` was tried: the proof keeps nothing of `out` across its turns
     for k in 0..out.len() {
-        out[k] = field::mul_add(p, c, t[k], out[k]);
+        out[k] = field::mul_add(p.value, c, t[k], out[k]);
     }
 }
 
 // t * (y - x) modulo p, from the top down
-fn times_linear(p: u32, x: u32, t: &mut [u32])
-    requires x_below { x < p }
+fn times_linear(p: Modulus, x: u32, t: &mut [u32])
+    requires x_below { x < p.value }
     requires some { 0 < length t.old }
-    requires t_below { (k : ℕ) → k < length t.old → get_or t.old k 0 < p }
-    ensures { t.new ≡ tabulate (length t.old) (times_linear p x t.old) }
+    requires t_below { (k : ℕ) → k < length t.old → get_or t.old k 0 < p.value }
+    ensures { t.new ≡ tabulate (length t.old) (times_linear p.value x t.old) }
 {
     for k in (1..t.len()).rev() {
-        t[k] = field::mul_sub(p, t[k - 1], x, t[k]);
+        t[k] = field::mul_sub(p.value, t[k - 1], x, t[k]);
     }
-    t[0] = field::mul_sub(p, 0, x, t[0]);
+    t[0] = field::mul_sub(p.value, 0, x, t[0]);
 }
 
 // What out misses of v at x, over the value of t there: the multiple of t that Newton's next step adds to out
@@ -199,8 +202,8 @@ fn next_point(p: Modulus, x: u32, v: u32, t: &mut [u32], out: &mut [u32])
     ensures t_after { t.new ≡ tabulate (length t.old) (times_linear p.value x t.old) }
 {
     let c = weight(p, x, v, out, t);
-    add_multiple(p.value, c, t, out);
-    times_linear(p.value, x, t);
+    add_multiple(p, c, t, out);
+    times_linear(p, x, t);
 }
 
 // The coefficients of the polynomial that takes vs[i] at xs[i]: Newton's rule, one point more each turn

@@ -12,14 +12,23 @@ fn entries<P: Print>(rt: &P, r: &[u32]) -> io::Result<()> {
     Ok(())
 }
 
+// What a call answered, as its numbers.
+fn answer<P: Print>(rt: &P, name: &str, call: &str, numbers: &[u32]) -> io::Result<()> {
+    print!(rt; "{name} {call}")?;
+    for number in numbers {
+        print!(rt; " {number}")?;
+    }
+    println!(rt; "")
+}
+
 fn resultant<P: Print>(rt: &P, name: &str, p: u32, a: &[u32], b: &[u32]) -> io::Result<()> {
     let r = kernel::row_resultant(p, a, b);
-    println!(rt; "{name} resultant {} {} {}", r.number, r.value, r.steps)
+    answer(rt, name, "resultant", &[r.number, r.value, r.steps])
 }
 
 fn plain<P: Print>(rt: &P, name: &str, p: u32, a: &[u32], b: &[u32]) -> io::Result<()> {
     let r = kernel::plain_determinant(p, a, b);
-    println!(rt; "{name} plain {} {}", r.number, r.value)
+    answer(rt, name, "plain", &[r.number, r.value])
 }
 
 // The work row is shown before and after, so that a refusal is seen to leave it.

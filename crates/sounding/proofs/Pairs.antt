@@ -2,13 +2,17 @@
 --
 --   at_tests       a pair is kept where its point is below p, new and usable, and its value is the point's own
 --   Kept P points values i    the pair at i would have been kept after those before it
---   pairs_kept     the test of all pairs holds exactly where each would have been kept
---   pairs_broken   so it fails where one would not
-use Rattle.std.specs.Prelude.{ℕ, ◌<◌, Bool, true, false, not, ◌&&◌, List, [], map, ◌≡◌, refl, ◌↔◌, leb, eqb, length, get_or, take}
-use Rattle.std.proofs.Common.{arith, ap, sym, ◌∙◌, eqb-true, eq-eqb, length-take-le, get_or-take}
+--   Lost P points values i    it would not
+--   tests          these, for the tests of one pair
+--   pairs_tested   the test of all pairs holds exactly where each would have been kept
+use Rattle.std.specs.Prelude.{ℕ, ◌+◌, ◌<◌, Bool, true, false, not, ◌&&◌, List, [], map, ◌≡◌, refl, leb, eqb, length, get_or, take}
+use Rattle.std.proofs.Common.{arith, ap, sym, ◌∙◌, subst, length-take-le, get_or-take}
 use Rattle.std.proofs.Math.Bool.{and-eq-true_iff}
-use Rattle.std.proofs.lemmas.Bool.{false≢true}
 use Rattle.std.proofs.lemmas.Bool.Decides.{nat_tests}
+use Rattle.std.proofs.lemmas.Grind.{common_steps}
+use Rattle.std.specs.Bool.{MatchBool}
+use Rattle.std.specs.List.{AllWithin, HoldsAt, range_with_len}
+use Rattle.std.proofs.lemmas.List.FromFn.{length-range_with_len, get_or-range_with_len}
 use Rattle.std.proofs.lemmas.List.{length-map, ext_get_or, get_or-map}
 use Rattle.scope.specs.Pair.{Pair}
 use Rattle.scope.specs.Point.{usable, kept}
@@ -36,6 +40,9 @@ pub ruleset tests = (nat_tests, at_tests, among_any)
 abbrev pub Kept : Pair → List ℕ → List ℕ → ℕ → Type 0
 Kept P points values i = kept_at P (take i points) (get_or points i 0) (get_or values i 0) ≡ true
 
+abbrev pub Lost : Pair → List ℕ → List ℕ → ℕ → Type 0
+Lost P points values i = kept_at P (take i points) (get_or points i 0) (get_or values i 0) ≡ false
+
 module _ (P : Pair) (points values : List ℕ) where
   module _ (i : ℕ) where
     Fine : Type 0
@@ -43,14 +50,11 @@ module _ (P : Pair) (points values : List ℕ) where
 
     at_each : Kept P points values i → Fine × (get_or values i 0 ≡ kept P (get_or points i 0))
     unfolding kept_at Fine
-    at_each h =
-        let (point, value) = (and-eq-true_iff (eqb (point_number P (take i points) (get_or points i 0)) 0) (eqb (get_or values i 0) (kept P (get_or points i 0)))).0 h in
-        ((point_number-zero P (take i points) (get_or points i 0)).0 (eqb-true _ 0 point), eqb-true _ _ value)
+    at_each h = ((point_number-zero P (take i points) (get_or points i 0)).0 (grind (arith, common_steps)), grind (arith, common_steps))
 
     each_at : Fine → get_or values i 0 ≡ kept P (get_or points i 0) → Kept P points values i
     unfolding kept_at Fine
-    each_at f e =
-        both_true _ _ (eq-eqb _ 0 ((point_number-zero P (take i points) (get_or points i 0)).1 f)) (eq-eqb _ _ e)
+    each_at f e = let zero = (point_number-zero P (take i points) (get_or points i 0)).1 f in grind (arith, common_steps)
 
   before_at : (i k : ℕ) → i < length points → k < i → get_or (take i points) k 0 ≡ get_or points k 0
   before_at i k l h = get_or-take i points k 0 h
@@ -98,12 +102,23 @@ module _ (P : Pair) (points values : List ℕ) where
           let b : i < length points = omega arith in
           (facts i b).1 ∙ sym (get_or-map (kept P) points i 0 0 b)
 
-  pub pairs_kept : length points ≡ length values → (kept_pairs P points values ≡ true) ↔ ((i : ℕ) → i < length points → Kept P points values i)
-  pairs_kept long = (pairs_each, each_pairs long)
+  -- the indices of the pairs
+  indices : List ℕ
+  indices = range_with_len 0 (length points)
 
-  pub pairs_broken : (i : ℕ) → i < length points → kept_at P (take i points) (get_or points i 0) (get_or values i 0) ≡ false → kept_pairs P points values ≡ false
-  pairs_broken i l h = go (kept_pairs P points values) refl
-    where
-      go : (t : Bool) → kept_pairs P points values ≡ t → t ≡ false
-      go true e = absurd (false≢true (sym h ∙ pairs_each e i l))
-      go false e = refl
+  index : (i : ℕ) → i < length points → get_or indices i 0 ≡ i
+  unfolding indices
+  index i l = let none : 0 + i ≡ i = omega arith in get_or-range_with_len 0 (length points) i 0 l ∙ none
+
+  -- the pairs tested one after the other, up to the first that would not have been kept
+  pub pairs_tested : length points ≡ length values → (r : Bool)
+      → MatchBool r (AllWithin (Kept P points values) (range_with_len 0 (length points)) 0 (length (range_with_len 0 (length points))))
+      ((k : ℕ) × (k < length (range_with_len 0 (length points))) × HoldsAt (Lost P points values) (range_with_len 0 (length points)) k)
+      → r ≡ kept_pairs P points values
+  unfolding indices
+  pairs_tested long true all =
+      sym (each_pairs long (λ i l. subst (Kept P points values) (index i l) (all i 0 (omega arith) (omega (arith, length-range_with_len 0 (length points))))))
+  pairs_tested long false (k, l, other) =
+      let inside : k < length points = omega (arith, length-range_with_len 0 (length points)) in
+      let lost : Lost P points values k = subst (Lost P points values) (index k inside) (other 0) in
+      grind (arith, common_steps, λ (e : kept_pairs P points values ≡ true). pairs_each e k inside)

@@ -1,19 +1,20 @@
 -- The test of a record in its parts.
 --
---   low_degrees                     where the numbers pass, the degrees in x are at most 16
+--   low_m, low_n                    where the numbers pass, the degrees in x are at most 16
 --   pair_tables                     the pair of the record is that of its tables
+--   opening                         these, for the test of the tables
 --   pair_parts                      the test of the pair is that of the numbers, then that of the tables
 --   tables_opened, pair_opened      where they pass, the pair can be lent
 --   lent_enough                     as many points are usable as are needed where the lent pair has as many as it needs
 --   lent_points                     the test of the kept points in its parts, on the lent pair
 --   record_parts                    the whole test is that of the pair, then that of the points
-use Rattle.std.proofs.Common.{ℕ, ◌+◌, ◌*◌, ◌≤◌, Bool, true, false, not, ◌&&◌, [], map, ◌≡◌, refl, sym, ap, ◌∙◌, leb, eqb, length, take, drop, eqb-true}
-use Rattle.std.proofs.Math.Bool.{and_assoc, and-eq-true_iff}
-use Rattle.std.proofs.lemmas.Bool.{not-true}
+use Rattle.std.proofs.Common.{ℕ, ◌+◌, ◌*◌, ◌≤◌, Bool, true, false, not, ◌&&◌, List, [], map, ◌≡◌, refl, arith, sym, ap, ◌∙◌, leb, eqb, length, take, drop}
+use Rattle.std.proofs.Math.Bool.{and_assoc}
+use Rattle.std.proofs.lemmas.Grind.{common_steps}
 use Rattle.residue.specs.Prime.{Modulus}
 use Rattle.scope.specs.Pair.{term, occurs, largest, degree_a, degree_b, tables}
 use Rattle.scope.specs.Point.{kept, needed, usables, enough}
-use Rattle.scope.specs.Number.{outside, composite, too_high, over, no_lead}
+use Rattle.scope.specs.Number.{over, no_lead}
 use Rattle.scope.specs.TestLaws.{modulus_tests, too_high_false}
 use Rattle.points.specs.declared.Pair.{Pair}
 use Rattle.points.specs.Lent.{pair_at}
@@ -34,28 +35,21 @@ by_table : (x o o' z z' l l' d d' e : Bool)
 by_table x o o' z z' l l' d d' e = simp (and_assoc, and_left_comm)
 
 module _ (p m n : ℕ) (h : sound_numbers p m n ≡ true) where
-  parts : (not (outside p) ≡ true) × (not (composite p) ≡ true) × (not (too_high m) ≡ true) × (not (too_high n) ≡ true)
-  unfolding sound_numbers
-  parts =
-      let (rest, of_n) = (and-eq-true_iff (not (outside p) && not (composite p) && not (too_high m)) (not (too_high n))).0 h in
-      let (first, of_m) = (and-eq-true_iff (not (outside p) && not (composite p)) (not (too_high m))).0 rest in
-      let (range, prime) = (and-eq-true_iff (not (outside p)) (not (composite p))).0 first in
-      (range, prime, of_m, of_n)
-
   modulus : Modulus p
-  modulus = (modulus_tests p).0 (not-true _ parts.0, not-true _ parts.1)
+  unfolding sound_numbers
+  modulus = (modulus_tests p).0 (grind (arith, common_steps), grind (arith, common_steps))
 
   pub low_m : m ≤ 16
-  low_m = (too_high_false m).0 (not-true _ parts.2)
+  unfolding sound_numbers
+  low_m = (too_high_false m).0 (grind (arith, common_steps))
 
   pub low_n : n ≤ 16
-  low_n = (too_high_false n).0 (not-true _ parts.3)
+  unfolding sound_numbers
+  low_n = (too_high_false n).0 (grind (arith, common_steps))
 
-table-degree : (p m d : ℕ) (t : _) → sound_table p m d t ≡ true → d ≡ largest 16 (occurs m (term 16 t))
+table-degree : (p m d : ℕ) (t : List ℕ) → sound_table p m d t ≡ true → d ≡ largest 16 (occurs m (term 16 t))
 unfolding sound_table
-table-degree p m d t h =
-    eqb-true d (largest 16 (occurs m (term 16 t)))
-    ((and-eq-true_iff (not (over p t) && zeros (drop ((m + 1) * 17) t) && not (no_lead m 16 t)) (eqb d (largest 16 (occurs m (term 16 t))))).0 h).1
+table-degree p m d t h = grind (arith, common_steps)
 
 module _ (j : Job) where
   pub pair_tables : pair_of j ≡ tables j.p j.m 16 j.n 16 j.a j.b
@@ -88,10 +82,8 @@ module _ (j : Job) where
   pub pair_opened : length j.a ≡ 289 → length j.b ≡ 289 → sound_pair j ≡ true → IsOpened j
   unfolding sound_tables
   pair_opened long_a long_b h =
-      let (numbers, rest) = (and-eq-true_iff (sound_numbers j.p j.m j.n) (sound_tables j.p j.m j.da j.n j.db j.a j.b)).0 (sym pair_parts ∙ h) in
-      let (both, _) = (and-eq-true_iff (sound_table j.p j.m j.da j.a && sound_table j.p j.n j.db j.b) (enough (tables j.p j.m 16 j.n 16 j.a j.b))).0 rest in
-      let (a, b) = (and-eq-true_iff (sound_table j.p j.m j.da j.a) (sound_table j.p j.n j.db j.b)).0 both in
-      tables_opened long_a long_b numbers a b
+      let e : (sound_numbers j.p j.m j.n && sound_tables j.p j.m j.da j.n j.db j.a j.b) ≡ true = sym pair_parts ∙ h in
+      tables_opened long_a long_b (grind (arith, common_steps)) (grind (arith, common_steps)) (grind (arith, common_steps))
 
   pub record_parts : shaped j ≡ true → sound? j ≡ (sound_pair j && sound_points j)
   unfolding sound?
@@ -105,12 +97,12 @@ unfolding enough pair_of
 lent_enough j P wanted o h e =
     (λ i. leb (e i) (length (usables (lent_pair h i) (h.p i)))) ∙ ap (λ (k : ℕ). leb k (length (usables (pair_of j) j.p))) (lent_needed h o)
 
-pub lent_points : {j : Job} {P : Pair} → IsPairOf j P → IsOpened j
+pub lent_points : {j : Job} {P : Pair} → IsPairOf j P → length j.a ≡ 289 → length j.b ≡ 289 → sound_pair j ≡ true
     → sound_points j ≡ (leb j.count (P.b.m * P.a.d + P.a.m * P.b.d + 1) && zeros (drop j.count j.points) && zeros (drop j.count j.values)
     && kept_pairs (pair_at P) (take j.count j.points) (take j.count j.values))
 unfolding sound_points kept_pairs kept_points
-lent_points {j} {P} h o =
+lent_points {j} {P} h long_a long_b s =
     and_assoc (leb j.count (needed (pair_of j)) && zeros (drop j.count j.points) && zeros (drop j.count j.values))
     (good (pair_of j) [] (kept_points j)) (same (take j.count j.values) (map (kept (pair_of j)) (kept_points j)))
-    ∙ sym (λ i. leb j.count (lent_needed h o i) && zeros (drop j.count j.points) && zeros (drop j.count j.values)
+    ∙ sym (λ i. leb j.count (lent_needed h (pair_opened j long_a long_b s) i) && zeros (drop j.count j.points) && zeros (drop j.count j.values)
     && kept_pairs (lent_pair h i) (take j.count j.points) (take j.count j.values))

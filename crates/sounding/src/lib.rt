@@ -93,12 +93,7 @@ fn kept_pairs(pair: Pair, points: &[u32], values: &[u32]) -> bool
     requires { length points.now ≡ length values.now }
     ensures { result ≡ kept_pairs (pair_at pair.entry) points.now values.now }
 {
-    for i in 0..points.len() {
-        if !kept_pair(pair, &points[..i], points[i], values[i]) {
-            return false;
-        }
-    }
-    true
+    (0..points.len()).all(|i| kept_pair(pair, &points[..i], points[i], values[i]))
 }
 
 // Whether the kept pairs of a record whose pair is sound are no more than are needed, each would have been kept, and the

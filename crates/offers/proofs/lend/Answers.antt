@@ -2,9 +2,6 @@
 use Rattle.offers.proofs.Record.{table_of_a, table_of_b}
 use Rattle.offers.proofs.lend.Goals as goal
 
-pub invariant_of-result : goal.invariant_of-result
-invariant_of-result c = record { least = c.requires.modulus.least; prime = c.requires.modulus.prime }
-
 pub invariant_of-result-2 : goal.invariant_of-result-2
 invariant_of-result-2 c = record { fits = table_of_a _ c.requires }
 

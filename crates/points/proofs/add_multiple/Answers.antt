@@ -1,11 +1,8 @@
 -- `points::add_multiple`: each turn stores one sum, of an entry that no turn before has changed.
 use native.Mathlib.Omega.{arith}
 use Rattle.points.specs.Step.{plus_multiple}
-use Rattle.points.proofs.Stores.{stored_none, stored_up, stored_all}
+use Rattle.points.proofs.Stores.{stored_up, stored_all}
 use Rattle.points.proofs.add_multiple.Goals as goal
-
-pub loop-k-init : goal.loop-k-init
-loop-k-init c = stored_none _ 0 _
 
 pub loop-k-preserved : goal.loop-k-preserved
 unfolding plus_multiple

@@ -2,12 +2,9 @@
 -- still those that came in.
 use native.Mathlib.Omega.{arith}
 use mathlib.Core.Path.{refl}
-use Rattle.points.proofs.Stores.{stored_none, stored_down, stored_all, kept-below}
+use Rattle.points.proofs.Stores.{stored_down, stored_all}
 use Rattle.points.proofs.Linear.{linear_above, linear_first}
 use Rattle.points.proofs.times_linear.Goals as goal
-
-pub loop-k-init : goal.loop-k-init
-loop-k-init c = (omega arith, stored_none _ _ _)
 
 pub loop-k-preserved : goal.loop-k-preserved
 loop-k-preserved c = (
@@ -22,6 +19,3 @@ returns c =
     (stored_down _ 0 c.loop-k.invariant.1 (omega arith) (omega arith) (omega arith)
     (linear_first _ _ c.loop-k.invariant.1 (omega arith) c.mul_sub-2.ensures))
     refl
-
-pub mul_sub-requires-2-clause-b_lt_p : goal.mul_sub-requires-2-clause-b_lt_p
-mul_sub-requires-2-clause-b_lt_p c = kept-below c.loop-k.invariant.1 c.requires.t_below _ (omega arith) (omega arith)

@@ -7,4 +7,4 @@ use Rattle.points.specs.Step.{times_linear}
 use Rattle.points.proofs.times_linear.Given as goal
 
 abbrev pub invariant-loop-k : goal.invariant-loop-k
-invariant-loop-k l = (0 < l.k) × Stored (times_linear l.p l.x l.initial.t) l.k (length l.initial.t) l.initial.t l.t
+invariant-loop-k l = (0 < l.k) × Stored (times_linear l.p.value l.x l.initial.t) l.k (length l.initial.t) l.initial.t l.t

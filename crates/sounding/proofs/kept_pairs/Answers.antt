@@ -1,10 +1,12 @@
 -- `sounding::kept_pairs`: every pair would have been kept, or one would not.
-use Rattle.std.proofs.Common.{arith, sym, ◌∙◌}
-use Rattle.sounding.proofs.Pairs.{pairs_kept, pairs_broken}
+use Rattle.std.proofs.Common.{rules, tests, arith, refl, length}
+use Rattle.std.proofs.lemmas.Iterator.{YieldsList-from_range, cases_from_all}
+use Rattle.points.specs.Lent.{pair_at}
+use Rattle.sounding.proofs.Pairs.{Kept, Lost, pairs_tested}
 use Rattle.sounding.proofs.kept_pairs.Goals as goal
 
-pub returns-then-not-kept_pair : goal.returns-then-not-kept_pair
-returns-then-not-kept_pair c = sym (pairs_broken _ _ _ _ (omega arith) (sym c.kept_pair.ensures ∙ c.if-not-kept_pair.true))
-
 pub returns : goal.returns
-returns c = sym ((pairs_kept _ _ _ c.requires).1 (λ k l. c.loop-i.invariant k (omega arith)))
+returns c =
+    pairs_tested _ _ _ c.requires _
+    (cases_from_all _ _ _ (Kept (pair_at c.args.pair) c.args.points.now c.args.values.now) (Lost (pair_at c.args.pair) c.args.points.now c.args.values.now)
+    c.all.ensures.ran (YieldsList-from_range 0 _ (length c.args.points.now) refl (omega arith)) (λ x q k. search (rules, tests)) (λ x q k. search (rules, tests)))

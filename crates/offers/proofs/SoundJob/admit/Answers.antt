@@ -1,21 +1,15 @@
--- `offers::SoundJob::admit`: the tests in the scope's order.
-use Rattle.offers.proofs.Points.{searched, tested, number_large, number_repeated, number_unusable, number_good}
+-- `offers::SoundJob::admit`: the tests in the scope's order; the points that are searched are those kept.
+use Rattle.std.proofs.Common.{arith, ap, eqb}
+use Rattle.std.specs.List.{list_any}
+use Rattle.std.proofs.lemmas.Grind.{common_steps}
+use Rattle.offers.proofs.Points.{admitting}
 use Rattle.offers.proofs.SoundJob.admit.Goals as goal
 
-pub returns-then-self-a : goal.returns-then-self-a
-returns-then-self-a c = number_large _ _ c.if-self-a.true
-
 pub returns-then-contains : goal.returns-then-contains
-returns-then-contains c = number_repeated _ _ c.if-self-a.false (searched _ c.contains.ensures.value c.points.ensures c.if-contains.true)
+returns-then-contains c = grind (arith, common_steps, admitting, ap (list_any (λ y. eqb y c.args.a)) c.points.ensures)
 
 pub returns-then-not-usable : goal.returns-then-not-usable
-returns-then-not-usable c =
-    number_unusable _ _ c.if-self-a.false
-    (searched _ c.contains.ensures.value c.points.ensures c.if-contains.false)
-    (tested _ c.pair.ensures c.usable.ensures c.if-not-usable.true)
+returns-then-not-usable c = grind (arith, common_steps, admitting, ap (list_any (λ y. eqb y c.args.a)) c.points.ensures)
 
 pub returns : goal.returns
-returns c =
-    number_good _ _ c.if-self-a.false
-    (searched _ c.contains.ensures.value c.points.ensures c.if-contains.false)
-    (tested _ c.pair.ensures c.usable.ensures c.if-not-usable.false)
+returns c = grind (arith, common_steps, admitting, ap (list_any (λ y. eqb y c.args.a)) c.points.ensures)

@@ -1,6 +1,6 @@
 -- `offers::SoundJob::lot`: each turn offers one point.
 use Rattle.std.proofs.Common.{◌∙◌}
-use Rattle.offers.proofs.Lots.{passed_none, passed_more, passed_all}
+use Rattle.offers.proofs.Lots.{passed_none, passed_more}
 use Rattle.offers.proofs.SoundJob.lot.Goals as goal
 
 pub loop-i-init : goal.loop-i-init
@@ -9,9 +9,3 @@ loop-i-init c = passed_none _ _ _ c.requires.room
 pub loop-i-preserved : goal.loop-i-preserved
 loop-i-preserved c =
     passed_more _ _ _ c.requires.room c.loop-i.invariant c.loop-i-test.true (c.answer.ensures ∙ c.offer.ensures.number) c.offer.ensures.job
-
-pub returns-clause-job : goal.returns-clause-job
-returns-clause-job c = (passed_all _ _ _ c.requires.room c.loop-i.invariant c.loop-i-test.false).0
-
-pub returns-clause-bytes : goal.returns-clause-bytes
-returns-clause-bytes c = (passed_all _ _ _ c.requires.room c.loop-i.invariant c.loop-i-test.false).1
