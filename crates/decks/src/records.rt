@@ -7,6 +7,7 @@ ghost use Rattle.decks.specs.Refusal.{steep};
 ghost use Rattle.decks.specs.Kind.{kind_number, refusal_number, Admits};
 
 use crate::{Deck, Stage};
+use job::Job;
 
 // What a record is, by the number of its kind.
 #[derive(Clone, Copy, PartialEq, Eq)]
@@ -131,7 +132,7 @@ impl Deck {
             f: 0,
             a: [0; 289],
             b: [0; 289],
-            job: opening::blank(),
+            job: Job::default(),
         }
     }
 

@@ -1,6 +1,6 @@
 // One record of a deck: the state after it, the line that it prints, and whether the run stops.
 // The job in a state comes from an opening and offers alone, so no call here checks it again.
-ghost use Rattle.std.specs.Prelude.{◌≤◌, ◌≡◌, cond, None, Some, [], length, eqb};
+ghost use Rattle.std.specs.Prelude.{◌≤◌, ◌≡◌, [], length};
 ghost use Rattle.decks.specs.declared.Stage.TheVariants.{Opened};
 ghost use Rattle.decks.specs.Deck.{deck_number, fresh, point_line, read_line, with_job};
 ghost use Rattle.decks.specs.DeckLaws.{stepped};
@@ -14,8 +14,9 @@ ghost use Rattle.std.proofs.Props.{props};
 use crate::records::{Kind, number4};
 use crate::{Deck, Stage};
 use arrayvec::ArrayString;
-use job::{Job, ReadAnswer};
+use checks::Refusal;
 use lines::Line;
+use offers::SoundJob;
 
 // A state that a run may come to: its tables are those of its degrees, and an open job is sound.
 #[derive(Clone, Copy)]
@@ -98,31 +99,37 @@ impl FitDeck {
     {
         match self.opened() {
             Ok(job) => {
-                let bound = offers::needed_for(job) - 1;
+                let bound = job.needed() - 1;
                 Line::Opened { bound }.write(line);
                 self.state.stage = Stage::Opened;
-                self.state.job = job;
+                self.state.job = job.job;
                 false
             }
-            Err(number) => {
+            Err(refusal) => {
+                let number = refusal.number();
                 Line::Unopened { number }.write(line);
                 true
             }
         }
     }
 
-    // The job of the tables, which are laid out for degree 16 in y, or the number that refuses them.
-    fn opened(&self) -> Result<Job, u32>
+    // The sound job of the tables, which are laid out for degree 16 in y, or what refuses them.
+    fn opened(&self) -> Result<SoundJob, Refusal>
         ensures { Opens self.now.state result }
     {
         let d = &self.state;
         let size_a = ((d.m + 1) * 17) as usize;
         let size_b = ((d.n + 1) * 17) as usize;
-        let answer = opening::strict(d.p, d.m, 16, d.n, 16, &d.a[..size_a], &d.b[..size_b]);
-        if answer.number == 0 {
-            Ok(answer.job)
-        } else {
-            Err(answer.number)
+        opening::strict(d.p, d.m, 16, d.n, 16, &d.a[..size_a], &d.b[..size_b])
+    }
+
+    // The open job.
+    fn job(&self) -> SoundJob
+        requires { self.now.state.stage ≡ Opened }
+        ensures { result.job ≡ self.now.state.job }
+    {
+        SoundJob {
+            job: self.state.job,
         }
     }
 
@@ -133,10 +140,10 @@ impl FitDeck {
         ensures state { self.new.state ≡ with_job self.old.state self.old.state.stage (offered self.old.state.job a) }
         ensures line { line.new.bytes ≡ point_line self.old.state.job a }
     {
-        let answer = offers::offer_sound(self.state.job, a);
-        let number = answer.number;
+        let mut job = self.job();
+        let number = offers::answer(job.offer(a));
         Line::Point { a, number }.write(line);
-        self.state.job = answer.job;
+        self.state.job = job.job;
     }
 
     // Reads the open job.
@@ -145,28 +152,17 @@ impl FitDeck {
         requires room { 5707 ≤ CAP }
         ensures { line.new.bytes ≡ read_line self.now.state.job }
     {
-        let job = self.state.job;
+        let job = self.job();
         let mut entries = [0u32; 513];
-        let answer = reads::read_sound(job, &mut entries);
-        if answer.number != 0 {
-            let points = answer.wanted;
-            Line::Wanted { points }.write(line);
-            return;
+        match reads::read(&job, &mut entries) {
+            Ok(degree) => {
+                let entries = &entries[..job.needed() as usize];
+                Line::Read { degree, entries }.write(line);
+            }
+            Err(refusal) => {
+                let points = refusal.wanted();
+                Line::Wanted { points }.write(line);
+            }
         }
-        let count = offers::needed_for(job) as usize;
-        let degree = degree_of(answer);
-        let entries = &entries[..count];
-        Line::Read { degree, entries }.write(line);
-    }
-}
-
-// The degree that a read answers, or none for the zero polynomial.
-fn degree_of(answer: ReadAnswer) -> Option<u32>
-    ensures { result ≡ cond (eqb answer.zero 0) (Some answer.degree) None }
-{
-    if answer.zero == 0 {
-        Some(answer.degree)
-    } else {
-        None
     }
 }

@@ -1,17 +1,19 @@
 -- How the calls on a job come to their results: a record that is not sound, a refusal, or the work done.
 --
---   open_strict                      opening is the strict opening
+--   open_strict, open_refused        opening is the strict opening; it refuses
 --   offer_unsound, offer_done        a single offer
 --   lot_unsound, lot_short, lot_done a lot
 --   read_unsound, read_done          a read
 --   shot_done                        the one-shot
+--   offer_refused, lot_sent_back, read_refused    the same of a record that sounding refuses,
+--   offer_taken, lot_cramped, lot_taken, read_taken   and of one that it hands out
 use Prim.Native.Nat.{ℕ, suc, ◌<◌, ◌≤◌}
 use Rattle.std.proofs.Common.{arith, ap, ◌∙◌}
-use Rattle.std.specs.Prelude.{true, false, cond, List, ◌++◌, ◌≡◌, eqb, length, get_or, drop}
-use Rattle.std.proofs.Math.Path.{refl, sym}
+use Rattle.std.specs.Prelude.{Bool, Err, true, false, cond, List, ◌++◌, ◌≡◌, eqb, length, get_or, drop}
+use Rattle.std.proofs.Math.Path.{refl, sym, subst}
 use Rattle.std.proofs.Math.Dec.{eqb-suc-zero}
 use Rattle.std.proofs.Math.ListN.{get_or-append}
-use borrow.Author.Tests.{lt-ltb, le-ltb}
+use borrow.Author.Tests.{lt-ltb, le-ltb, ne_eqb}
 use Rattle.scope.specs.Pair.{Pair, tables, coefficient}
 use Rattle.scope.specs.Point.{tabulate, room}
 use Rattle.scope.specs.Number.{◌gives◌otherwise◌, lot_number}
@@ -20,10 +22,14 @@ use Rattle.scope.specs.Degree.{tabulate-length, tabulate-get_or}
 use Rattle.job.specs.declared.Job.{Job}
 use Rattle.job.specs.declared.JobAnswer.{JobAnswer}
 use Rattle.job.specs.declared.ReadAnswer.{ReadAnswer}
-use Rattle.job.specs.Job.{pair_of}
+use Rattle.job.specs.Job.{pair_of, opened, blank}
 use Rattle.job.specs.Calls.{offer_number, offered, lot_answers, lotted, reading, written}
 use Rattle.job.specs.Sound.{sound?}
 use Rattle.job.specs.Public.{strict_number, strict_job, open_answer, open_job, offer_answer, offer_job, lot_answer, lot_job, lot_bytes, read_answer, read_wanted, read_degree, read_zero, read_out, out_after, shot_answer, shot_out}
+use Rattle.checks.specs.declared.Refusal.{Refusal}
+use Rattle.checks.specs.declared.Refusal.TheVariants.{Wanted}
+use Rattle.checks.specs.Outcome.{number_of, number_of_bounds}
+use Rattle.reads.specs.Answered.{answered}
 use Rattle.reads.specs.Read.{ReadSound}
 use Rattle.reads.specs.Shot.{Shot}
 use Rattle.kernel.specs.Results.{OpenResult, OfferResult, LotResult, ReadResult, ShotResult}
@@ -121,3 +127,56 @@ shot_done p m e n f s t out r after h = record {
   left = h.output;
   entries = λ z. entries_of (tables p m e n f s t) (shot_answer p m e n f s t out) out after h.output (sym h.number ∙ z);
 }
+
+pub open_refused : (p m e n f : ℕ) (s t : List ℕ) (k : ℕ) (j : Job) → k ≡ strict_number p m e n f s t → 2 ≤ k → j ≡ blank
+    → OpenResult p m e n f s t (record { number = k; job = j })
+unfolding open_answer open_job strict_job
+open_refused p m e n f s t k j hn some hj = record {
+  number = hn;
+  job = hj ∙ sym (ap (λ (b : Bool). cond b (opened p m e n f s t) blank) (ne_eqb (strict_number p m e n f s t) 0 (λ z. omega arith)));
+}
+
+-- the number that sounding gives a record
+abbrev sounded : Job → ℕ
+sounded j = cond (sound? j) 0 16
+
+-- the record as sounding hands it out, or refuses it
+module _ (j : Job) where
+  job_sound : 0 ≡ sounded j → sound? j ≡ true
+  job_sound e = go (sound? j) refl e
+    where
+      go : (t : Bool) → sound? j ≡ t → 0 ≡ cond {A = ℕ} t 0 16 → sound? j ≡ true
+      go true h e = h
+      go false h e = absurd (omega arith)
+
+  job_refused : {n : ℕ} → n ≡ sounded j → 2 ≤ n → (n ≡ 16) × (sound? j ≡ false)
+  job_refused {n} e l = go (sound? j) refl e
+    where
+      go : (t : Bool) → sound? j ≡ t → n ≡ cond {A = ℕ} t 0 16 → (n ≡ 16) × (sound? j ≡ false)
+      go true h e = absurd (omega arith)
+      go false h e = (e, h)
+
+  pub offer_refused : (a : ℕ) (n : ℕ) → n ≡ sounded j → 2 ≤ n → OfferResult j a (record { number = n; job = j })
+  offer_refused a n e l = let r = job_refused e l in rw r.0 (offer_unsound j a r.1)
+
+  pub offer_taken : (a : ℕ) {k : Job} {r : JobAnswer} → 0 ≡ sounded j → k ≡ j → r.number ≡ offer_number k a → r.job ≡ offered k a → OfferResult j a r
+  offer_taken a {r = r} e same hn hj = offer_done j a r (job_sound e) (hn ∙ ap (λ (i : Job). offer_number i a) same) (hj ∙ ap (λ (i : Job). offered i a) same)
+
+  module _ (xs bytes : List ℕ) where
+    pub lot_sent_back : (n : ℕ) → n ≡ sounded j → 2 ≤ n → LotResult j xs bytes (record { number = n; job = j }) bytes
+    lot_sent_back n e l = let r = job_refused e l in rw r.0 (lot_unsound j xs bytes r.1)
+
+    pub lot_cramped : 0 ≡ sounded j → length bytes < length xs → LotResult j xs bytes (record { number = 9; job = j }) bytes
+    lot_cramped e l = lot_short j xs bytes (job_sound e) l
+
+    pub lot_taken : {i k : Job} {after : List ℕ} → 0 ≡ sounded j → i ≡ j → length xs ≤ length bytes → k ≡ lotted i xs
+        → after ≡ lot_answers i xs ++ drop (length xs) bytes → LotResult j xs bytes (record { number = 0; job = k }) after
+    lot_taken e same l hk ha =
+        lot_done j xs bytes _ _ (job_sound e) l (hk ∙ ap (λ (i : Job). lotted i xs) same) (ha ∙ ap (λ (i : Job). lot_answers i xs ++ drop (length xs) bytes) same)
+
+  pub read_refused : (out : List ℕ) (r : Refusal) → number_of r ≡ sounded j → ReadResult j out (answered (Err r)) out
+  read_refused out (Wanted w) e = let r = job_refused e (number_of_bounds (Wanted w)).0 in absurd (omega (arith, r.0))
+  read_refused out r e = let q = job_refused e (number_of_bounds r).0 in rw q.0 (read_unsound j out q.1)
+
+  pub read_taken : (out : List ℕ) {k : Job} {r : ReadAnswer} {after : List ℕ} → 0 ≡ sounded j → k ≡ j → ReadSound k out r after → ReadResult j out r after
+  read_taken out {r = r} {after = after} e same s = read_done j out r after (job_sound e) (subst (λ (i : Job). ReadSound i out r after) same s)

@@ -3,6 +3,7 @@
 --   row_refused, row_given, row_done the row resultant: a refusal, what the work asks, the work done
 --   plain_refused ..                 the plain determinant
 --   division_refused ..              division in the work row
+--   row_laws                         all of these, for the calls
 use Rattle.std.specs.Prelude.{ℕ, ◌+◌, ◌≤◌, ◌<◌, Bool, List, ◌++◌, ◌≡◌, refl, ◌≢◌, length}
 use Rattle.std.proofs.Common.{arith, ◌∙◌, eq-eqb, ne_eqb}
 use Rattle.std.proofs.Math.Path.{sym, ap}
@@ -18,6 +19,7 @@ use Rattle.scope.specs.Answers.{only_done, row_value, row_count, plain_value, di
 use Rattle.residue.specs.Prime.{Prime}
 use Rattle.euclid.specs.RowLaws.{Below, Ended}
 use Rattle.rows.specs.Given.{IsRow}
+use Rattle.checks.specs.Outcome.{number_of_bounds}
 use Rattle.checks.specs.Facts.{RowFacts, row-facts, plain-facts, DivisionFacts, division-facts}
 use Rattle.euclid.specs.Row.{trim}
 use Rattle.rows.specs.Which.{pick, first?, first?_yes, first?_no, lower, lower_first, lower_second}
@@ -111,6 +113,8 @@ module _ (p : ℕ) (a b : List ℕ) where
     where
       z : division_number p a b ≡ 0
       z = sym er ∙ zr
+
+pub ruleset row_laws = (row_refused, row_given, row_done, plain_refused, plain_given, plain_done, division_refused, division_given, division_done, number_of_bounds)
 
 -- a row beside itself is cut to its true length
 alone : (a : List ℕ) → length (lower a a) ≡ length (trim a)

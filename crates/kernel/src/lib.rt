@@ -3,10 +3,14 @@
 // gather it (specs/Results.antt).
 #![tactic(auto)]
 
+ghost use Rattle.std.specs.Prelude.{◌≡◌};
+ghost use Rattle.checks.specs.Outcome.{number_of};
 ghost use Rattle.kernel.specs.Results.{RowResult, PlainResult, DivisionResult, DivisorResult, OpenResult, OfferResult, LotResult, ReadResult, ShotResult};
 
+use checks::Refusal;
 use job::{Job, JobAnswer, ReadAnswer};
 
+// The answers are records of numbers, since C sees them.
 // value: the resultant. steps: the coefficient steps of the remainder sequence.
 #[repr(C)]
 #[derive(Clone, Copy)]
@@ -32,57 +36,58 @@ pub struct DivisionAnswer {
 }
 
 // The resultant of two rows, by the monic remainder sequence.
+#[tactic(auto, using(crate::specs::RowLaws::row_laws))]
 pub fn row_resultant(p: u32, a: &[u32], b: &[u32]) -> RowAnswer
     ensures { RowResult p a.now b.now result }
 {
-    let number = checks::row_number(p, a, b);
-    if number != 0 {
-        return RowAnswer {
-            number: number,
+    match checks::row(p, a, b) {
+        Ok(modulus) => {
+            let found = rows::resultant(modulus, a, b);
+            RowAnswer {
+                number: 0,
+                value: found.value,
+                steps: found.steps,
+            }
+        }
+        Err(refusal) => RowAnswer {
+            number: refusal.number(),
             value: 0,
             steps: 0,
-        };
-    }
-    let found = rows::resultant(p, a, b);
-    RowAnswer {
-        number: 0,
-        value: found.value,
-        steps: found.steps,
+        },
     }
 }
 
 // The same resultant for m + n <= 6, by expansion along rows.
+#[tactic(auto, using(crate::specs::RowLaws::row_laws))]
 pub fn plain_determinant(p: u32, a: &[u32], b: &[u32]) -> PlainAnswer
     ensures { PlainResult p a.now b.now result }
 {
-    let number = checks::plain_number(p, a, b);
-    if number != 0 {
-        return PlainAnswer {
-            number: number,
+    match checks::plain(p, a, b) {
+        Ok(_) => PlainAnswer {
+            number: 0,
+            value: plain::plain(p, a, b),
+        },
+        Err(refusal) => PlainAnswer {
+            number: refusal.number(),
             value: 0,
-        };
-    }
-    PlainAnswer {
-        number: 0,
-        value: plain::plain(p, a, b),
+        },
     }
 }
 
 // Division in the work row: remainder and quotient take the dividend's place.
+#[tactic(auto, using(crate::specs::RowLaws::row_laws))]
 pub fn divide(p: u32, row: &mut [u32], b: &[u32]) -> DivisionAnswer
     ensures { DivisionResult p row.old b.now result row.new }
 {
-    let number = checks::division_number(p, &row[..], b);
-    if number != 0 {
-        return DivisionAnswer {
-            number: number,
+    match checks::division(p, row, b) {
+        Ok(modulus) => DivisionAnswer {
+            number: 0,
+            count: rows::divide(modulus, row, b),
+        },
+        Err(refusal) => DivisionAnswer {
+            number: refusal.number(),
             count: 0,
-        };
-    }
-    let count = rows::divide(p, row, b);
-    DivisionAnswer {
-        number: 0,
-        count: count,
+        },
     }
 }
 
@@ -97,33 +102,45 @@ pub fn divisor<'a>(a: &'a [u32], b: &'a [u32]) -> &'a [u32]
 pub fn open(p: u32, m: u32, e: u32, n: u32, f: u32, a: &[u32], b: &[u32]) -> JobAnswer
     ensures { OpenResult p m e n f a.now b.now result }
 {
-    opening::strict(p, m, e, n, f, a, b)
+    match opening::strict(p, m, e, n, f, a, b) {
+        Ok(opened) => JobAnswer {
+            number: 0,
+            job: opened.job,
+        },
+        Err(refusal) => refused(refusal, Job::default()),
+    }
 }
 
 // Offers one point.
 pub fn offer(j: Job, a: u32) -> JobAnswer
     ensures { OfferResult j a result }
 {
-    if !sounding::is_sound(j) {
-        return JobAnswer { number: 16, job: j };
+    match sounding::sound(j) {
+        Ok(mut job) => {
+            let number = offers::answer(job.offer(a));
+            JobAnswer {
+                number,
+                job: job.job,
+            }
+        }
+        Err(refusal) => refused(refusal, j),
     }
-    offers::offer_sound(j, a)
 }
 
 // Offers points from left to right, and writes one answer byte for each.
 pub fn lot(j: Job, points: &[u32], answers: &mut [u8]) -> JobAnswer
     ensures { LotResult j points.now answers.old result answers.new }
 {
-    if !sounding::is_sound(j) {
-        return JobAnswer { number: 16, job: j };
-    }
-    if answers.len() < points.len() {
-        return JobAnswer { number: 9, job: j };
-    }
-    let after = offers::lot_sound(j, points, answers);
-    JobAnswer {
-        number: 0,
-        job: after,
+    match sounding::sound(j) {
+        Ok(_) if answers.len() < points.len() => refused(Refusal::Room, j),
+        Ok(mut job) => {
+            job.lot(points, answers);
+            JobAnswer {
+                number: 0,
+                job: job.job,
+            }
+        }
+        Err(refusal) => refused(refusal, j),
     }
 }
 
@@ -131,15 +148,10 @@ pub fn lot(j: Job, points: &[u32], answers: &mut [u8]) -> JobAnswer
 pub fn read(j: Job, out: &mut [u32]) -> ReadAnswer
     ensures { ReadResult j out.old result out.new }
 {
-    if !sounding::is_sound(j) {
-        return ReadAnswer {
-            number: 16,
-            wanted: 0,
-            degree: 0,
-            zero: 0,
-        };
+    match sounding::sound(j) {
+        Ok(job) => reads::answer(reads::read(&job, out)),
+        Err(refusal) => reads::answer(Err(refusal)),
     }
-    reads::read_sound(j, out)
 }
 
 // Opening, the smallest points that suffice, and the read.
@@ -155,5 +167,15 @@ pub fn one_shot(
 ) -> ReadAnswer
     ensures { ShotResult p m e n f a.now b.now out.old result out.new }
 {
-    reads::one_shot(p, m, e, n, f, a, b, out)
+    reads::answer(reads::one_shot(p, m, e, n, f, a, b, out))
+}
+
+// A refusal, with the job that it hands back.
+fn refused(refusal: Refusal, job: Job) -> JobAnswer
+    ensures { result ≡ record { number = number_of refusal; job = job } }
+{
+    JobAnswer {
+        number: refusal.number(),
+        job,
+    }
 }

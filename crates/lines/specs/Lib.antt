@@ -4,3 +4,4 @@ pub mod Line
 -- laws
 pub mod TextLaws
 pub mod Decimal
+pub mod LineLaws

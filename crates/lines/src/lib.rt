@@ -9,7 +9,7 @@ ghost use Rattle.lines.specs.Line.{line_text, line_room};
 use crate::text::{write_line, write_read};
 use arrayvec::ArrayString;
 
-// What a deck prints in answer to a record, or at the end of input.
+// What a deck prints in answer to a record, or at the end of input. A number here is one that is printed.
 #[derive(Clone, Copy)]
 pub enum Line<'a> {
     // end

@@ -1,5 +1,4 @@
 -- Facts that the proofs of the functions cite, a file for each subject.
-pub mod WorkRows
 pub mod Record
 pub mod Points
 pub mod Surplus

@@ -2,21 +2,17 @@
 --
 --   Passed j xs old i bytes k  the first i points of xs are passed: the answer bytes, old before, are bytes, and the job is k
 --   passed_none                before the first
---   passed_length              there are as many bytes as before
---   passed_standing            the job is still sound
 --   passed_more                one point more
---   passed_all                 all of them
 use Prim.Native.Nat.{ℕ, suc, ◌+◌, ◌<◌, ◌≤◌}
 use native.Mathlib.Numerals.{add-one}
 use native.Mathlib.Omega.{arith}
 use mathlib.Core.List.{List, [], ◌∷◌, ◌++◌, append_assoc}
-use mathlib.Core.Path.{◌≡◌, refl, sym, ap, ap₂, ◌∙◌, subst}
-use lib.ListN.{length, get_or, take, drop, set, length-append, length-drop}
-use lib.Seq.{take-suc, take_all, drop-cons, length-take-le, set-append_seam}
+use mathlib.Core.Path.{◌≡◌, refl, sym, ap, ◌∙◌}
+use lib.ListN.{length, get_or, take, drop, set}
+use lib.Seq.{take-suc, drop-cons, length-take-le, set-append_seam}
 use Rattle.job.specs.declared.Job.{Job}
 use Rattle.job.specs.Calls.{offer_number, offered, lot_answers, lotted}
-use Rattle.job.specs.Standing.{Standing}
-use Rattle.job.specs.StandingLaws.{lotted_standing, lotted-append, lot_answers-append}
+use Rattle.job.specs.StandingLaws.{lotted-append, lot_answers-append}
 
 lot_answers-length : (j : Job) (xs : List ℕ) → length (lot_answers j xs) ≡ length xs
 unfolding lot_answers
@@ -37,14 +33,6 @@ module _ (j : Job) (xs old : List ℕ) (room : length xs ≤ length old) where
     -- the answers so far are i bytes
     count : length (lot_answers j (take i xs)) ≡ i
     count = lot_answers-length j (take i xs) ∙ length-take-le i xs h.within
-
-    pub passed_length : length bytes ≡ length old
-    passed_length =
-        ap length h.answers ∙ length-append (lot_answers j (take i xs)) (drop i old)
-        ∙ omega (arith, count, length-drop i old, h.within)
-
-    pub passed_standing : Standing j → Standing k
-    passed_standing s = subst Standing (sym h.job) (lotted_standing j s (take i xs))
 
     pub passed_more : i < length xs → {r : ℕ} {next : Job} → r ≡ offer_number k (get_or xs i 0) → next ≡ offered k (get_or xs i 0)
         → Passed j xs old (i + 1) (set bytes i r) next
@@ -69,9 +57,3 @@ module _ (j : Job) (xs old : List ℕ) (room : length xs ≤ length old) where
             ∙ set-append_seam done (get_or old i 0) (drop (suc i) old) r
             ∙ sym (append_assoc done (r ∷ []) (drop (suc i) old))
             ∙ ap (λ (n : ℕ). (done ++ r ∷ []) ++ drop n old) (sym (add-one i))
-
-    pub passed_all : length xs ≤ i → (k ≡ lotted j xs) × (bytes ≡ lot_answers j xs ++ drop (length xs) old)
-    passed_all l =
-        let all : take i xs ≡ xs = take_all i xs l in
-        let end : i ≡ length xs = omega (arith, h.within) in
-        (h.job ∙ ap (lotted j) all, h.answers ∙ ap₂ (λ (l : List ℕ) (n : ℕ). lot_answers j l ++ drop n old) all end)

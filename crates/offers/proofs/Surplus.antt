@@ -1,27 +1,30 @@
--- A surplus point: the table that the kept pairs are interpolated into, and its value at the point.
+-- The polynomial through the kept pairs of a record, worked out from the fronts of its two arrays.
 --
---   value-below      the kept values are below p
---   count-some       at least one point is kept
---   through j N k    coefficient k by Newton's rule through the first N kept pairs
---   table-agrees     comparing the table's value with the kept one says whether the point agrees
-use Prim.Native.Nat.{ℕ, suc, ◌+◌, ◌-◌, ◌<◌}
-use native.Mathlib.Omega.{arith}
-use mathlib.Core.List.{List, ◌++◌}
-use mathlib.Core.Path.{◌≡◌, ap, ap₂, ◌∙◌}
-use lib.Dec.{eqb}
-use lib.ListN.{get_or, drop}
-use Rattle.ring.specs.Ring.{Ring}
+--   value-below        the kept values are below p
+--   front_below        so are the entries of their front
+--   front_different    the entries of the front of the points are different points
+--   interpolated       what interpolation leaves is the interpolant
+--   table-agrees       comparing its value with the kept one says whether the point agrees
+use Rattle.std.proofs.Common.{ℕ, ◌<◌, ◌≤◌, List, ◌≡◌, arith, sym, ap, ap₂, ◌∙◌, eqb, length, get_or, take, get_or-take}
+use Rattle.std.proofs.lemmas.Grind.{common_steps}
+use mathlib.Core.Path.{fun_ext}
 use Rattle.residue.specs.Residue.{residues, res, val, res-val}
 use Rattle.residue.specs.Inverse.{inv}
 use Rattle.polynomial.specs.Value.{value, value_ext}
 use Rattle.polynomial.specs.Interpolation.{newton}
 use Rattle.scope.specs.Point.{tabulate, kept, needed}
-use Rattle.points.proofs.Stores.{front_new}
+use Rattle.scope.specs.Degree.{tabulate-length, tabulate-get_or}
+use Rattle.scope.specs.Recovery.{Different}
+use Rattle.points.specs.Step.{value_of}
 use Rattle.job.specs.declared.Job.{Job}
-use Rattle.job.specs.Job.{pair_of}
+use Rattle.job.specs.Job.{pair_of, kept_points}
 use Rattle.job.specs.Calls.{interpolant, agrees}
 use Rattle.job.specs.Standing.{Standing}
 use Rattle.job.specs.Complete.{kept-below}
+
+-- a list that is 0 from n on reads as its front does
+front_reads : (n : ℕ) (l : List ℕ) → ((i : ℕ) → n ≤ i → get_or l i 0 ≡ 0) → (i : ℕ) → get_or (take n l) i 0 ≡ get_or l i 0
+front_reads n l rest i = grind (arith, common_steps, rest i)
 
 module _ (j : Job) (s : Standing j) where
   pub value-below : (i : ℕ) → i < j.count → get_or j.values i 0 < j.p
@@ -30,32 +33,49 @@ module _ (j : Job) (s : Standing j) where
       let below : kept (pair_of j) (get_or j.points i 0) < j.p = kept-below (pair_of j) (get_or j.points i 0) (omega (arith, s.modulus.least)) in
       omega (arith, s.value-kept i l)
 
-abbrev pub through : (j : Job) → ℕ → ℕ → Ring.C (residues j.p)
-through j = newton (residues j.p) (inv j.p) (λ i. res j.p (get_or j.points i 0)) (λ i. res j.p (get_or j.values i 0))
+  pub front_below : {p n : ℕ} → p ≡ j.p → n ≡ j.count → (i : ℕ) → i < n → get_or (take j.count j.values) i 0 < p
+  front_below ep en i l = grind (arith, common_steps, value-below i)
+
+  pub front_different : {p n : ℕ} {points : List ℕ} → p ≡ j.p → n ≡ j.count → points ≡ kept_points j → Different p n (λ i. get_or points i 0)
+  unfolding kept_points
+  front_different {p} {n} {points} ep en e = record {
+    below = λ i l. omega (arith, at i (omega arith), s.point-below i (omega arith));
+    apart = λ i k below last q. s.point_apart i k below (omega arith) (sym (at i (omega arith)) ∙ q ∙ at k (omega arith));
+  }
+    where
+      at : (i : ℕ) → i < j.count → get_or points i 0 ≡ get_or j.points i 0
+      at i l = ap (λ (r : List ℕ). get_or r i 0) e ∙ get_or-take j.count j.points i 0 l
+
+  pub interpolated : j.count ≡ needed (pair_of j) → {p n : ℕ} {points out : List ℕ} → p ≡ j.p → n ≡ j.count → points ≡ kept_points j
+      → out ≡ tabulate n (λ k. val p (newton (residues p) (inv p) (λ i. res p (get_or points i 0)) (λ i. res p (get_or (take j.count j.values) i 0)) n k))
+      → out ≡ tabulate j.count (λ k. val j.p (interpolant j k))
+  unfolding interpolant kept_points
+  interpolated full {p} {n} {points} ep en e out-is =
+      out-is
+      ∙ (λ t. tabulate (en t) (λ k. val (ep t) (newton (residues (ep t)) (inv (ep t)) (λ i. res (ep t) (at t i)) (λ i. res (ep t) (values t i)) (all t) k)))
+    where
+      at : ◌≡◌ {A = ℕ → ℕ} (λ i. get_or points i 0) (λ i. get_or j.points i 0)
+      at = fun_ext (λ i. ap (λ (r : List ℕ). get_or r i 0) e ∙ front_reads j.count j.points s.point-rest i)
+
+      values : ◌≡◌ {A = ℕ → ℕ} (λ i. get_or (take j.count j.values) i 0) (λ i. get_or j.values i 0)
+      values = fun_ext (λ i. front_reads j.count j.values s.value-rest i)
+
+      all : n ≡ needed (pair_of j)
+      all = en ∙ full
 
 module _ (j : Job) (full : j.count ≡ needed (pair_of j)) where
-  pub count-some : 0 < j.count
-  unfolding needed
-  count-some = omega arith
-
-  pub table-agrees : (a : ℕ) (old : List ℕ) {t : List ℕ} {r v : ℕ}
-      → t ≡ tabulate j.count (λ k. val j.p (through j j.count k)) ++ drop j.count old
-      → r ≡ val j.p (value (residues j.p) (suc (j.count - 1)) (λ i. res j.p (get_or t (0 + i) 0)) (res j.p a))
-      → v ≡ kept (pair_of j) a
+  pub table-agrees : (a : ℕ) {t : List ℕ} {r v : ℕ} → t ≡ tabulate j.count (λ k. val j.p (interpolant j k)) → r ≡ value_of j.p (length t) t a → v ≡ kept (pair_of j) a
       → eqb r v ≡ agrees j a
-  unfolding agrees interpolant
-  table-agrees a old {t} {r} {v} et er ev =
-      ap₂ eqb (er ∙ ap (val j.p) (ap (λ (N : ℕ). value (residues j.p) N (λ i. res j.p (get_or t (0 + i) 0)) (res j.p a)) all
-      ∙ value_ext (residues j.p) (needed (pair_of j)) (λ i. res j.p (get_or t (0 + i) 0)) (interpolant j) (res j.p a) same)) ev
+  unfolding agrees value_of
+  table-agrees a {t} et er ev =
+      ap₂ eqb
+      (er
+      ∙ ap (λ (n : ℕ). val j.p (value (residues j.p) n (λ i. res j.p (get_or t i 0)) (res j.p a))) (ap length et ∙ tabulate-length j.count (λ k. val j.p (interpolant j k)) ∙ full)
+      ∙ ap (val j.p) (value_ext (residues j.p) (needed (pair_of j)) (λ i. res j.p (get_or t i 0)) (interpolant j) (res j.p a) same))
+      ev
     where
-      all : suc (j.count - 1) ≡ needed (pair_of j)
-      all = omega (arith, count-some)
-
-      same : (i : ℕ) → i < needed (pair_of j) → res j.p (get_or t (0 + i) 0) ≡ interpolant j i
+      same : (i : ℕ) → i < needed (pair_of j) → res j.p (get_or t i 0) ≡ interpolant j i
       same i l =
-          let zero_first : 0 + i ≡ i = omega arith in
-          ap (λ (k : ℕ). res j.p (get_or t k 0)) zero_first
-          ∙ ap (λ (u : List ℕ). res j.p (get_or u i 0)) et
-          ∙ ap (res j.p) (front_new (λ k. val j.p (through j j.count k)) j.count old i (omega arith))
-          ∙ res-val j.p (through j j.count i)
-          ∙ ap (λ (N : ℕ). through j N i) full
+          ap (λ (u : List ℕ). res j.p (get_or u i 0)) et
+          ∙ ap (res j.p) (tabulate-get_or j.count (λ k. val j.p (interpolant j k)) i (omega arith))
+          ∙ res-val j.p (interpolant j i)

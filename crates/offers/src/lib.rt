@@ -1,180 +1,160 @@
-// Offers to a sound job: the value kept at a point, the number of a point, a single offer and a lot.
-// What a sound record holds is taken for granted here (Standing): a call checks its record once, before it comes here.
+// Offers to a sound job: the number of a point, a single offer and a lot.
+// Whoever makes such a job has tested its record, or has it from an opening; so nothing here tests it again.
 #![tactic(auto)]
 
-ghost use Rattle.std.specs.Prelude.{◌≡◌, ◌++◌, ◌<◌, ◌≤◌, length, take, drop};
-ghost use Rattle.residue.specs.Prime.{Prime};
-ghost use Rattle.scope.specs.Pair.{tables};
-ghost use Rattle.scope.specs.Point.{usable, kept, needed};
-ghost use Rattle.scope.specs.Number.{among, point_number};
-ghost use Rattle.points.specs.Table.{Table};
-ghost use Rattle.job.specs.Job.{pair_of, kept_points, stored};
+ghost use Rattle.std.specs.Prelude.{◌≡◌, ℕ, true, ◌≤◌, ◌++◌, length, drop};
+ghost use Rattle.residue.specs.Residue.{val};
+ghost use Rattle.scope.specs.Point.{tabulate, needed};
+ghost use Rattle.scope.specs.Number.{point_number};
+ghost use Rattle.checks.specs.Outcome.{outcome};
+ghost use Rattle.job.specs.Job.{pair_of, kept_points};
 ghost use Rattle.job.specs.Calls;
-ghost use Rattle.job.specs.Standing.{Standing};
+ghost use Rattle.job.specs.Sound.{sound?};
+ghost use Rattle.offers.specs.Answer.{answer_of};
+ghost use Rattle.offers.specs.Lent.{IsOpened, IsPairOf};
 
-use job::{Job, JobAnswer};
+use checks::Refusal;
+use field::Modulus;
+use job::Job;
+use points::{Pair, Table};
 
-// The value kept at a point: the determinant of the two polynomials there, at their declared degrees
-pub fn kept_at(
-    p: u32,
-    ta: &[u32],
-    m: usize,
-    da: usize,
-    tb: &[u32],
-    n: usize,
-    db: usize,
-    a: u32,
-) -> u32
-    requires le_p { 2 ≤ p }
-    requires prime { Prime p }
-    requires table { Table m da ta.now }
-    requires table_2 { Table n db tb.now }
-    ensures { result ≡ kept (tables p m 16 n 16 ta.now tb.now) a }
-{
-    let mut u = [0u32; 17];
-    let mut w = [0u32; 17];
-    points::row_at(p, ta, m, da, a, &mut u);
-    points::row_at(p, tb, n, db, a, &mut w);
-    rows::determinant_in(p, &mut u[..m + 1], &mut w[..n + 1])
+// What an offer that is not refused did
+#[derive(Clone, Copy, PartialEq, Eq)]
+pub enum Offer {
+    Kept,
+    Surplus,
 }
 
-// Whether a is among the first count points
-pub fn is_among(points: &[u32], count: usize, a: u32) -> bool
-    requires { count ≤ length points.now }
-    ensures { result ≡ among a (take count points.now) }
+// The number that an offer answers
+pub fn answer(outcome: Result<Offer, Refusal>) -> u32
+    ensures { result ≡ answer_of outcome }
 {
-    for i in 0..count {
-        if a == points[i] {
-            return true;
+    match outcome {
+        Ok(Offer::Kept) => 0,
+        Ok(Offer::Surplus) => 1,
+        Err(refusal) => refusal.number(),
+    }
+}
+
+// The two polynomials of a record, where they stand in it
+pub fn lend(j: &Job) -> Pair<'_>
+    requires { IsOpened j.now }
+    ensures { IsPairOf j.now result }
+{
+    Pair {
+        p: Modulus { value: j.p },
+        a: Table {
+            entries: &j.a,
+            m: j.m as usize,
+            d: j.da as usize,
+        },
+        b: Table {
+            entries: &j.b,
+            m: j.n as usize,
+            d: j.db as usize,
+        },
+    }
+}
+
+// A job that some accepted opening and some offers leave
+#[derive(Clone, Copy)]
+pub struct SoundJob {
+    pub job: Job,
+    pub ghost sound: { sound? job ≡ true },
+}
+
+impl SoundJob {
+    // Its two polynomials
+    fn pair(&self) -> Pair<'_>
+        ensures { IsPairOf self.now.job result }
+    {
+        lend(&self.job)
+    }
+
+    // How many points are needed: D + 1
+    pub fn needed(&self) -> u32
+        ensures { result ≡ needed (pair_of self.now.job) }
+    {
+        self.pair().needed() as u32
+    }
+
+    // The points kept
+    #[tactic(auto, using(crate::proofs::Record::room), unfolding(job::specs::Job::kept_points))]
+    fn points(&self) -> &[u32]
+        ensures { result.now ≡ kept_points self.now.job }
+    {
+        &self.job.points[..self.job.count as usize]
+    }
+
+    // Whether a point would be kept while points are wanted: 10, 12 and 11 refuse it
+    #[tactic(auto, using(crate::proofs::Points::admitting))]
+    fn admit(&self, a: u32) -> Result<(), Refusal>
+        ensures { outcome result ≡ point_number (pair_of self.now.job) (kept_points self.now.job) a }
+    {
+        if self.job.p <= a {
+            return Err(Refusal::Point);
+        }
+        if self.points().contains(&a) {
+            return Err(Refusal::Repeated);
+        }
+        if !self.pair().usable(a) {
+            return Err(Refusal::Unusable);
+        }
+        Ok(())
+    }
+
+    // The coefficients of the polynomial through the kept pairs, lowest first
+    #[tactic(auto, using(crate::proofs::Record::room))]
+    pub fn interpolate(&self, out: &mut [u32])
+        requires full { self.now.job.count ≡ needed (pair_of self.now.job) }
+        requires room { length out.old ≡ self.now.job.count }
+        ensures { out.new ≡ tabulate self.now.job.count (λ k. val self.now.job.p (Calls.interpolant self.now.job k)) }
+    {
+        let count = self.job.count as usize;
+        points::interpolate(self.pair().p, self.points(), &self.job.values[..count], out);
+    }
+
+    // Whether that polynomial takes the value at a that would be kept there
+    #[tactic(auto, using(crate::proofs::Record::room))]
+    pub fn agrees(&self, a: u32) -> bool
+        requires { self.now.job.count ≡ needed (pair_of self.now.job) }
+        ensures { result ≡ Calls.agrees self.now.job a }
+    {
+        let mut table = [0u32; 513];
+        let coefficients = &mut table[..self.job.count as usize];
+        self.interpolate(coefficients);
+        points::value_at(self.job.p, coefficients, a) == self.pair().kept(a)
+    }
+
+    // A single offer: a usable new point is kept with its value while points are wanted
+    #[tactic(auto, using(crate::proofs::Numbers::offering), unfolding(job::specs::Job::stored))]
+    pub fn offer(&mut self, a: u32) -> Result<Offer, Refusal>
+        ensures number { answer_of result ≡ Calls.offer_number self.old.job a }
+        ensures job { self.new.job ≡ Calls.offered self.old.job a }
+    {
+        self.admit(a)?;
+        if self.job.count < self.needed() {
+            let value = self.pair().kept(a);
+            let at = self.job.count as usize;
+            self.job.points[at] = a;
+            self.job.values[at] = value;
+            self.job.count += 1;
+            return Ok(Offer::Kept);
+        }
+        if !self.agrees(a) {
+            return Err(Refusal::Disagrees);
+        }
+        Ok(Offer::Surplus)
+    }
+
+    // The points of a lot left to right, each as a single offer; one answer byte for each
+    pub fn lot(&mut self, points: &[u32], answers: &mut [u8])
+        requires room { length points.now ≤ length answers.old }
+        ensures job { self.new.job ≡ Calls.lotted self.old.job points.now }
+        ensures bytes { answers.new ≡ Calls.lot_answers self.old.job points.now ++ drop (length points.now) answers.old }
+    {
+        for (i, a) in points.iter().enumerate() {
+            answers[i] = answer(self.offer(*a)) as u8;
         }
     }
-    false
-}
-
-// The value kept at a point of a sound job
-fn kept_value(j: Job, a: u32) -> u32
-    requires { Standing j }
-    ensures { result ≡ kept (pair_of j) a }
-{
-    let ta = j.a;
-    let tb = j.b;
-    kept_at(
-        j.p,
-        &ta,
-        j.m as usize,
-        j.da as usize,
-        &tb,
-        j.n as usize,
-        j.db as usize,
-        a,
-    )
-}
-
-// Whether a point is usable in a sound job
-fn usable_point(j: Job, a: u32) -> bool
-    requires { Standing j }
-    ensures { result ≡ usable (pair_of j) a }
-{
-    let ta = j.a;
-    let tb = j.b;
-    points::usable_at(
-        j.p,
-        &ta,
-        j.m as usize,
-        j.da as usize,
-        &tb,
-        j.n as usize,
-        j.db as usize,
-        a,
-    )
-}
-
-// The number of a point, before it is kept or surplus: 10, 12, 11 or 0
-pub fn point_number(j: Job, a: u32) -> u32
-    requires { Standing j }
-    ensures { result ≡ point_number (pair_of j) (kept_points j) a }
-{
-    if j.p <= a {
-        return 10;
-    }
-    if is_among(&j.points, j.count as usize, a) {
-        return 12;
-    }
-    if usable_point(j, a) {
-        return 0;
-    }
-    11
-}
-
-// How many points are needed: D + 1
-pub fn needed_for(j: Job) -> u32
-    requires { Standing j }
-    ensures { result ≡ needed (pair_of j) }
-{
-    points::needed(j.m as usize, j.da as usize, j.n as usize, j.db as usize) as u32
-}
-
-// Whether the polynomial through the kept pairs takes the value at a that would be kept there
-pub fn agrees(j: Job, a: u32) -> bool
-    requires standing { Standing j }
-    requires count_value { j.count ≡ needed (pair_of j) }
-    ensures { result ≡ Calls.agrees j a }
-{
-    let count = j.count as usize;
-    let xs = j.points;
-    let vs = j.values;
-    let mut t = [0u32; 513];
-    points::interpolate(j.p, count, &xs, &vs, &mut t);
-    points::value_at(j.p, &t, 0, count - 1, a) == kept_value(j, a)
-}
-
-// The job with the point a and its value kept
-fn store(j: Job, a: u32) -> Job
-    requires standing { Standing j }
-    requires count_bound { j.count < needed (pair_of j) }
-    ensures { result ≡ stored j a }
-{
-    let at = j.count as usize;
-    let value = kept_value(j, a);
-    let mut k = j;
-    k.points[at] = a;
-    k.values[at] = value;
-    k.count = j.count + 1;
-    k
-}
-
-// A single offer
-pub fn offer_sound(j: Job, a: u32) -> JobAnswer
-    requires { Standing j }
-    ensures number_value { result.number ≡ Calls.offer_number j a }
-    ensures job_value { result.job ≡ Calls.offered j a }
-{
-    let number = point_number(j, a);
-    if number != 0 {
-        return JobAnswer { number, job: j };
-    }
-    if j.count < needed_for(j) {
-        let k = store(j, a);
-        return JobAnswer { number: 0, job: k };
-    }
-    if agrees(j, a) {
-        return JobAnswer { number: 1, job: j };
-    }
-    JobAnswer { number: 13, job: j }
-}
-
-// The points of a lot left to right, each as a single offer; one answer byte for each
-pub fn lot_sound(j: Job, xs: &[u32], answers: &mut [u8]) -> Job
-    requires standing { Standing j }
-    requires xs_in_bounds { length xs.now ≤ length answers.old }
-    ensures value { result ≡ Calls.lotted j xs.now }
-    ensures answers_after { answers.new ≡ Calls.lot_answers j xs.now ++ drop (length xs.now) answers.old }
-{
-    let mut k = j;
-    for i in 0..xs.len() {
-        let answer = offer_sound(k, xs[i]);
-        answers[i] = answer.number as u8;
-        k = answer.job;
-    }
-    k
 }

@@ -1,47 +1,40 @@
 -- What the strict opening finds on the way, and what follows for its number and its job.
 --
---   Answers             the number and the job are those of the strict opening
---   refused-shape       a refusal before the points are counted: that number, and the blank record
+--   refused-shape       a refusal before the points are counted
 --   fresh               a job with no point kept
 --   Found               both tables have passed all but the test for 8, are laid out, and have their true degrees
 --   facts               what the tests before say of the tables as they came
 --   table_of_a, table_of_b    each laid-out table with its true degree
---   refused-scarce      too few usable points: 8, and the blank record
---   accepted            enough of them: 0, and the job
-use Prim.Native.Nat.{ℕ, ◌+◌, ◌*◌}
+--   refused-scarce      too few usable points: 8
+--   accepted-number, accepted_job, accepted_sound     enough of them: 0, and the job, which is sound
+use Prim.Native.Nat.{ℕ, ◌+◌, ◌*◌, ◌≤◌}
 use native.Mathlib.Omega.{arith}
 use mathlib.Core.Bool.{Bool, true, false, cond, not}
 use mathlib.Core.List.{List}
-use mathlib.Core.Path.{◌≡◌, sym, ap, ap₂, ◌∙◌}
+use mathlib.Core.Path.{◌≡◌, sym, ap, ap₂, ◌∙◌, subst}
 use lib.Dec.{leb}
 use lib.ListN.{length, replicate}
-use borrow.Author.Tests.{eq-eqb, ne_eqb}
+use borrow.Author.Tests.{eq-eqb}
 use Rattle.scope.specs.Pair.{term, tables, largest, occurs, degree_a, degree_b, bound}
 use Rattle.scope.specs.Point.{usables, needed, enough}
 use Rattle.scope.specs.Number.{◌gives◌otherwise◌, scarce}
 use Rattle.checks.specs.Refusal.{gives_true, gives_false, then_refused, then_done}
 use Rattle.checks.specs.Shape.{shape_number, open-shape}
 use Rattle.checks.specs.Facts.{ShapeFacts, shape-facts}
-use Rattle.points.specs.Table.{Table, table_of}
+use Rattle.points.specs.Table.{IsTable, table_of}
 use Rattle.job.specs.declared.Job.{Job}
 use Rattle.job.specs.Job.{spread, opened, blank}
+use Rattle.job.specs.Sound.{sound?}
+use Rattle.job.specs.Standing.{Standing}
+use Rattle.job.specs.SoundLaws.{standing_test}
 use Rattle.job.specs.Public.{strict_number, strict_job}
 use Rattle.job.specs.SamePair.{SamePair, same-degree_a, same-degree_b, same-enough}
-use Rattle.job.specs.OpenLaws.{spread-length, spread-term, tables-same}
+use Rattle.job.specs.OpenLaws.{opened_standing, spread-length, spread-term, tables-same}
 
-abbrev pub Answers : (p m e n f : ℕ) (s t : List ℕ) → ℕ → Job → Type 0
-Answers p m e n f s t number job = (number ≡ strict_number p m e n f s t) × (job ≡ strict_job p m e n f s t)
-
-refused : (p m e n f : ℕ) (s t : List ℕ) {number : ℕ} {job : Job} (r : ℕ) → r ≡ strict_number p m e n f s t → (r ≡ 0 → ⊥)
-    → (number ≡ r) × (job ≡ blank) → Answers p m e n f s t number job
-unfolding strict_job
-refused p m e n f s t r at some (q, z) =
-    (q ∙ at, z ∙ sym (ap (λ (b : Bool). cond b (opened p m e n f s t) blank) (ne_eqb (strict_number p m e n f s t) 0 (λ none. some (at ∙ none)))))
-
-pub refused-shape : (p m e n f : ℕ) (s t : List ℕ) {number : ℕ} {job : Job} (r : ℕ) → r ≡ shape_number p m e n f s t → (r ≡ 0 → ⊥)
-    → (number ≡ r) × (job ≡ blank) → Answers p m e n f s t number job
+-- a refusal before the points are counted
+pub refused-shape : (p m e n f : ℕ) (s t : List ℕ) {r : ℕ} → r ≡ shape_number p m e n f s t → 2 ≤ r → r ≡ strict_number p m e n f s t
 unfolding strict_number
-refused-shape p m e n f s t r at some = refused p m e n f s t r (at ∙ sym (open-shape p m e n f s t ∙ then_refused _ _ (omega arith))) some
+refused-shape p m e n f s t at some = at ∙ sym (open-shape p m e n f s t ∙ then_refused _ _ (omega arith))
 
 abbrev pub fresh : (p m n da db : ℕ) (a b : List ℕ) → Job
 fresh p m n da db a b =
@@ -69,10 +62,10 @@ module _ {p m e n f : ℕ} {s t a b : List ℕ} {da db : ℕ} (h : Found p m e n
   pub facts : ShapeFacts p m e n f s t
   facts = shape-facts p m e n f s t h.none
 
-  pub table_of_a : Table m da a
+  pub table_of_a : IsTable m da a
   table_of_a = table_of m da a (ap length h.laid_a ∙ spread-length e s) facts.high_m h.real_a
 
-  pub table_of_b : Table n db b
+  pub table_of_b : IsTable n db b
   table_of_b = table_of n db b (ap length h.laid_b ∙ spread-length f t) facts.high_n h.real_b
 
   same : SamePair (tables p m 16 n 16 a b) (tables p m e n f s t)
@@ -94,21 +87,32 @@ module _ {p m e n f : ℕ} {s t a b : List ℕ} {da db : ℕ} (h : Found p m e n
   judged = open-shape p m e n f s t ∙ then_done _ _ h.none
 
   -- the test for 8, made of the laid-out tables with D + 1 as w
-  module _ (w : ℕ) {r : Bool} (wanted : w ≡ n * da + m * db + 1) (test : r ≡ leb w (length (usables (tables p m 16 n 16 a b) p))) where
+  module _ (w : ℕ) {q : ℕ} {r : Bool} (modulus : q ≡ p) (wanted : w ≡ n * da + m * db + 1) (test : r ≡ leb w (length (usables (tables q m 16 n 16 a b) q))) where
     plenty : r ≡ enough (tables p m e n f s t)
     unfolding enough needed bound degree_a degree_b tables
     plenty =
         test
+        ∙ ap (λ (k : ℕ). leb w (length (usables (tables k m 16 n 16 a b) k))) modulus
         ∙ ap (λ (d : ℕ). leb d (length (usables (tables p m 16 n 16 a b) p))) (wanted ∙ ap₂ (λ (x y : ℕ). n * x + m * y + 1) h.real_a h.real_b)
         ∙ same-enough _ _ same
 
-    pub refused-scarce : {number : ℕ} {job : Job} → r ≡ false → (number ≡ 8) × (job ≡ blank) → Answers p m e n f s t number job
+    pub refused-scarce : r ≡ false → 8 ≡ strict_number p m e n f s t
     unfolding scarce
-    refused-scarce few = refused p m e n f s t 8 (sym (judged ∙ gives_true 8 0 (ap not (sym plenty ∙ few)))) (λ none. omega arith)
+    refused-scarce few = sym (judged ∙ gives_true 8 0 (ap not (sym plenty ∙ few)))
 
-    pub accepted : r ≡ true → Answers p m e n f s t 0 (fresh p m n da db a b)
-    unfolding scarce strict_job opened
-    accepted many =
-        let number : strict_number p m e n f s t ≡ 0 = judged ∙ gives_false 8 0 (ap not (sym plenty ∙ many)) in
-        let job : fresh p m n da db a b ≡ opened p m e n f s t = λ i. fresh p m n (degree_of_a i) (degree_of_b i) (h.laid_a i) (h.laid_b i) in
-        (sym number, job ∙ sym (ap (λ (b : Bool). cond b (opened p m e n f s t) blank) (eq-eqb (strict_number p m e n f s t) 0 number)))
+    pub accepted-number : r ≡ true → 0 ≡ strict_number p m e n f s t
+    unfolding scarce
+    accepted-number many = sym (judged ∙ gives_false 8 0 (ap not (sym plenty ∙ many)))
+
+    fresh_opened : fresh p m n da db a b ≡ opened p m e n f s t
+    unfolding opened
+    fresh_opened = λ i. fresh p m n (degree_of_a i) (degree_of_b i) (h.laid_a i) (h.laid_b i)
+
+    pub accepted_job : r ≡ true → fresh p m n da db a b ≡ strict_job p m e n f s t
+    unfolding strict_job
+    accepted_job many =
+        fresh_opened ∙ sym (ap (λ (b : Bool). cond b (opened p m e n f s t) blank) (eq-eqb (strict_number p m e n f s t) 0 (sym (accepted-number many))))
+
+    pub accepted_sound : r ≡ true → sound? (fresh p m n da db a b) ≡ true
+    accepted_sound many =
+        (standing_test _).1 (subst Standing (sym fresh_opened) (opened_standing p m e n f s t (unfold strict_number in sym (accepted-number many))))

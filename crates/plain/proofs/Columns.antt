@@ -1,19 +1,17 @@
--- Columns of a table: all of them, and without one.
+-- Columns of a table: the first of them, and without one.
 --
 --   skip_low, skip_high       skip j k is k before j, and one more from j on
 --   every                     all six columns in their order
---   every_at, every_columns   the column at each place of them; they are columns of a table
---   Closing cols j out k      the places of out below k are closed up over place j of cols; the others are those of cols
---   closing_first, closing-next   such lists before the first step and after one more
-use Prim.Native.Nat.{ℕ, zero, suc, ◌+◌, ◌<◌, ◌≤◌}
-use native.Mathlib.Omega.{arith}
-use native.Mathlib.Numerals.{add-one}
-use native.Mathlib.Decide.{ℕ_discrete}
-use mathlib.Core.Path.{◌≡◌, refl, sym, ap, ◌∙◌}
-use mathlib.Core.List.{List, [], ◌∷◌}
-use lib.ListN.{length, get_or, set, length-set}
-use lib.Seq.{get_or-set_same, get_or-set_other}
+--   first_at                  the column at each place of the first n of them
+--   removed                   without the column at place j, place k holds the one at skip j k
+--   one_fewer, fewer_columns  the other columns are one fewer, and columns of a table
+use Rattle.std.proofs.Common.{inl, inr, ◌⊎◌, ℕ, zero, suc, ◌+◌, ◌-◌, ◌<◌, ◌≤◌, List, [], ◌∷◌, ◌≡◌, length, get_or, take, refl, sym, ap, subst, ◌∙◌, add-one, arith}
+use Rattle.std.proofs.Math.Seq.{get_or-take}
+use Rattle.std.specs.List.{remove}
+use Rattle.std.proofs.lemmas.Bool.{cases_lt}
+use Rattle.std.proofs.lemmas.List.Edits.{length-remove, get_or-remove_below, get_or-remove_above}
 use Rattle.ring.specs.Det.{skip}
+use Rattle.ring.specs.DetLaws.{skip-lt}
 use Rattle.plain.specs.Expansion.{Columns}
 
 pub skip_low : (j k : ℕ) → k < j → skip j k ≡ k
@@ -40,40 +38,23 @@ every_at (suc (suc (suc (suc zero)))) h = refl
 every_at (suc (suc (suc (suc (suc zero))))) h = refl
 every_at (suc (suc (suc (suc (suc (suc k)))))) h = absurd (omega arith)
 
-pub every_columns : (n : ℕ) → n ≤ 6 → Columns n every
-every_columns n most k l = omega (arith, every_at k (omega arith))
+pub first_at : (n k : ℕ) → n ≤ 6 → k < n → get_or (take n every) k 0 ≡ k
+first_at n k most l = get_or-take n every k 0 l ∙ every_at k (omega arith)
 
-pub record Closing (cols : List ℕ) (j : ℕ) (out : List ℕ) (k : ℕ) : Type 0 where
-  pub from : j ≤ k
-  pub count : length out ≡ 6
-  pub done : (t : ℕ) → t < k → get_or out t 0 ≡ get_or cols (skip j t) 0
-  pub rest : (t : ℕ) → k ≤ t → get_or out t 0 ≡ get_or cols t 0
+module _ (cols : List ℕ) (j : ℕ) (inside : j < length cols) where
+  pub removed : (k : ℕ) → get_or (remove cols j) k 0 ≡ get_or cols (skip j k) 0
+  removed k = by_place (cases_lt k j)
+    where
+      by_place : (k < j) ⊎ (j ≤ k) → get_or (remove cols j) k 0 ≡ get_or cols (skip j k) 0
+      by_place (inl l) = get_or-remove_below cols j 0 k l inside ∙ ap (λ (z : ℕ). get_or cols z 0) (sym (skip_low j k l))
+      by_place (inr past) =
+          get_or-remove_above cols j 0 k past inside
+          ∙ ap (λ (z : ℕ). get_or cols z 0) (add-one k ∙ sym (skip_high j k past))
 
-pub closing_first : (cols : List ℕ) (j : ℕ) → length cols ≡ 6 → Closing cols j cols j
-closing_first cols j six =
-    record {
-      from = omega arith;
-      count = six;
-      done = λ t l. ap (λ (z : ℕ). get_or cols z 0) (sym (skip_low j t l));
-      rest = λ t l. refl;
-    }
+  pub one_fewer : {others : List ℕ} → others ≡ remove cols j → length others + 1 ≡ length cols
+  one_fewer e = rw e (length-remove cols j inside)
 
-pub closing-next : {cols : List ℕ} {j : ℕ} {out : List ℕ} {k : ℕ} → Closing cols j out k → k < 5
-    → Closing cols j (set out k (get_or cols (k + 1) 0)) (k + 1)
-closing-next {cols} {j} {out} {k} h l =
-    record {
-      from = omega arith;
-      count = length-set out k (get_or cols (k + 1) 0) ∙ h.count;
-      done = λ t lt. at t (ℕ_discrete t k) lt;
-      rest = λ t le. get_or-set_other out k t (get_or cols (k + 1) 0) 0 (omega arith) ∙ h.rest t (omega arith);
-    }
-  where
-    at : (t : ℕ) → Dec (t ≡ k) → t < k + 1 → get_or (set out k (get_or cols (k + 1) 0)) t 0 ≡ get_or cols (skip j t) 0
-    at t (yes e) lt =
-        ap (λ (z : ℕ). get_or (set out k (get_or cols (k + 1) 0)) z 0) e
-        ∙ get_or-set_same out k (get_or cols (k + 1) 0) 0 (omega arith)
-        ∙ ap (λ (z : ℕ). get_or cols z 0) place
-      where
-        place : k + 1 ≡ skip j t
-        place = add-one k ∙ ap suc (sym e) ∙ sym (skip_high j t (omega arith))
-    at t (no ne) lt = get_or-set_other out k t (get_or cols (k + 1) 0) 0 ne ∙ h.done t (omega arith)
+  pub fewer_columns : {others : List ℕ} → others ≡ remove cols j → Columns (length cols) cols → Columns (length others) others
+  fewer_columns {others} e all k l =
+      subst (λ (z : ℕ). z < 6) (sym (ap (λ (c : List ℕ). get_or c k 0) e ∙ removed k))
+      (all (skip j k) (omega (arith, skip-lt j k (length cols - 1) (omega (arith, one_fewer e)))))

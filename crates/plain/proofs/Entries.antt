@@ -2,17 +2,20 @@
 --
 --   shifted-before, shifted_within, shifted_past   a row moved i places right: before place i, on the row, past its end
 --   matrix_low, matrix_high    the first n rows of the matrix are a's, the others b's
---   Filled a b t c             the places of the table t below c hold the matrix of a and b, six entries of each row
---   filled_first, filled_next, filled-last   such tables before the first step, after one more, and at the end
+--   made_cell                  the cells of a table that calls of a closure gave, six entries of each row
+--   size_most                  the matrix has at most six rows
 --   table-determinant          the determinant of the matrix that such a table holds
-use Prim.Native.Nat.{ℕ, ◌+◌, ◌*◌, ◌-◌, ◌/◌, ◌%◌, ◌<◌, ◌≤◌}
+use Prim.Native.Nat.{ℕ, zero, suc, ◌+◌, ◌*◌, ◌-◌, ◌/◌, ◌%◌, ◌<◌, ◌≤◌}
 use native.Mathlib.Nat.{zero-add}
 use native.Mathlib.Omega.{arith}
 use native.Mathlib.Decide.{ℕ_discrete}
-use mathlib.Core.Path.{◌≡◌, sym, ap, ap₂, ◌∙◌}
+use mathlib.Core.Path.{◌≡◌, sym, ap, ap₂, subst, ◌∙◌}
 use mathlib.Core.List.{List}
-use lib.ListN.{length, get_or, set, length-set}
-use lib.Seq.{get_or-set_same, get_or-set_other}
+use lib.ListN.{length, get_or, take}
+use lib.Seq.{length-take-le}
+use Rattle.std.specs.Array.{IsFromFnResult, IsFromFnResultFrom}
+use Rattle.std.specs.Fn.{Called}
+use denote.Param.Members.{Mut}
 use Rattle.ring.specs.Ring.{Ring}
 use Rattle.ring.specs.Matrix.{stack_low, stack_high}
 use Rattle.ring.specs.Det.{det}
@@ -24,7 +27,7 @@ use Rattle.euclid.specs.Row.{coef, declared, row_determinant}
 use Rattle.euclid.specs.RowLaws.{declared-length}
 use Rattle.plain.specs.Expansion.{cell, part}
 use Rattle.plain.specs.Rows.{shifted_row, row_matrix}
-use Rattle.plain.proofs.Columns.{every, every_at}
+use Rattle.plain.proofs.Columns.{every, first_at}
 
 module _ (p : ℕ) (a : List ℕ) (i k : ℕ) where
   pub shifted-before : k < i → res p 0 ≡ shifted_row p a i k
@@ -68,56 +71,57 @@ module _ (p : ℕ) (a b : List ℕ) (some : 0 < length b) (i k : ℕ) where
       place : i ≡ declared b + (i - (length b - 1))
       place = omega (arith, declared-length b some)
 
-pub record Filled (a b t : List ℕ) (c : ℕ) : Type 0 where
-  pub size : length t ≡ 36
-  pub done : (p s : ℕ) → s < c → res p (get_or t s 0) ≡ row_matrix p a b (s / 6) (s % 6)
+-- what n calls from place s on gave, where each call gives what R says and leaves the closure as it was
+module _ {F : Type 0} {g : Mut F (ℕ × Unit {0}) ℕ} {f : F} (R : ℕ → ℕ → Type 0) (gives : (s y : ℕ) (q : F) → Called g f (s, tt) y q → (q ≡ f) × R s y) (t : List ℕ) where
+  given : (k s y : ℕ) → R s y → get_or t s 0 ≡ y → s ≡ k → R k (get_or t k 0)
+  given k s y says here e = subst (λ (z : ℕ). R z (get_or t z 0)) e (subst (R s) (sym here) says)
 
-module _ {a b t : List ℕ} where
-  pub filled_first : length t ≡ 36 → Filled a b t 0
-  filled_first size = record { size = size; done = λ p s l. absurd (omega arith) }
+  made : (s n : ℕ) → IsFromFnResultFrom g f t s n → (k : ℕ) → s ≤ k → k < s + n → R k (get_or t k 0)
+  made s zero calls k from to = absurd (omega arith)
+  made s (suc n) (q, y, here, called, calls) k from to =
+      elim (ℕ_discrete s k) [
+        | yes e ↦ given k s y (gives s y q called).1 (here.1 0) e
+        | no ne ↦ made (s + 1) n (subst (λ (r : F). IsFromFnResultFrom g r t (s + 1) n) (gives s y q called).0 calls) k (omega arith) (omega arith)
+      ]
 
-  pub filled_next : {c : ℕ} → Filled a b t c → c < 36 → (r : ℕ) → ((p : ℕ) → res p r ≡ row_matrix p a b (c / 6) (c % 6))
-      → Filled a b (set t c r) (c + 1)
-  filled_next {c} h l r e =
-      record {
-        size = length-set t c r ∙ h.size;
-        done = λ p s ls. at p s (ℕ_discrete s c) ls;
-      }
-    where
-      at : (p s : ℕ) → Dec (s ≡ c) → s < c + 1 → res p (get_or (set t c r) s 0) ≡ row_matrix p a b (s / 6) (s % 6)
-      at p s (yes q) ls =
-          ap (λ (z : ℕ). res p (get_or (set t c r) z 0)) q
-          ∙ ap (res p) (get_or-set_same t c r 0 (omega (arith, h.size)))
-          ∙ e p
-          ∙ ap (λ (z : ℕ). row_matrix p a b (z / 6) (z % 6)) (sym q)
-      at p s (no ne) ls = ap (res p) (get_or-set_other t c s r 0 ne) ∙ h.done p s (omega arith)
+pub made_cell : {F : Type 0} {g : Mut F (ℕ × Unit {0}) ℕ} {f : F} {t : List ℕ} (a b : List ℕ) → IsFromFnResult g f t 36
+    → ((s y : ℕ) (q : F) → Called g f (s, tt) y q → (q ≡ f) × ((p : ℕ) → res p y ≡ row_matrix p a b (s / 6) (s % 6)))
+    → (p i k : ℕ) → i < 6 → k < 6 → cell p t i k ≡ row_matrix p a b i k
+unfolding cell
+made_cell {t = t} a b h gives p i k li lk =
+    made (λ (s y : ℕ). (p : ℕ) → res p y ≡ row_matrix p a b (s / 6) (s % 6)) gives t 0 36 h.each (i * 6 + k) (omega arith) (omega arith) p
+    ∙ ap₂ (row_matrix p a b) row column
+  where
+    row : (i * 6 + k) / 6 ≡ i
+    row = omega arith
 
-  pub filled-last : {c : ℕ} → Filled a b t c → 36 ≤ c → (p i k : ℕ) → i < 6 → k < 6 → cell p t i k ≡ row_matrix p a b i k
-  unfolding cell
-  filled-last h all p i k li lk =
-      h.done p (i * 6 + k) (omega arith)
-      ∙ ap (λ (z : ℕ). row_matrix p a b z ((i * 6 + k) % 6)) row
-      ∙ ap (λ (z : ℕ). row_matrix p a b i z) column
-    where
-      row : (i * 6 + k) / 6 ≡ i
-      row = omega arith
-
-      column : (i * 6 + k) % 6 ≡ k
-      column = omega arith
+    column : (i * 6 + k) % 6 ≡ k
+    column = omega arith
 
 -- with m and n one less than a and b have entries
+pub size_most : (a b : List ℕ) → 0 < length a → 0 < length b → declared a + declared b ≤ 6 → length a - 1 + (length b - 1) ≤ 6
+size_most a b some-a some-b most = omega (arith, declared-length a some-a, declared-length b some-b)
+
 pub table-determinant : (p : ℕ) (a b t : List ℕ) {r : ℕ} → 0 < length a → 0 < length b → declared a + declared b ≤ 6
     → ((p i k : ℕ) → i < 6 → k < 6 → cell p t i k ≡ row_matrix p a b i k)
-    → r ≡ val p (det (residues p) (length a - 1 + (length b - 1)) (part (cell p t) 0 every))
+    → r ≡ val p (det (residues p) (length (take (length a - 1 + (length b - 1)) every)) (part (cell p t) 0 (take (length a - 1 + (length b - 1)) every)))
     → r ≡ val p (row_determinant p a b)
 unfolding row_determinant resultant row_matrix part
 table-determinant p a b t some-a some-b most h hr =
     hr
-    ∙ ap (λ (n : ℕ). val p (det (residues p) n (part (cell p t) 0 every))) size
-    ∙ ap (val p) (det_ext (residues p) (declared a + declared b) (part (cell p t) 0 every) (row_matrix p a b) at)
+    ∙ ap (λ (n : ℕ). val p (det (residues p) n (part (cell p t) 0 cols))) size
+    ∙ ap (val p) (det_ext (residues p) (declared a + declared b) (part (cell p t) 0 cols) (row_matrix p a b) at)
   where
-    size : length a - 1 + (length b - 1) ≡ declared a + declared b
-    size = omega (arith, declared-length a some-a, declared-length b some-b)
+    cols : List ℕ
+    cols = take (length a - 1 + (length b - 1)) every
 
-    at : (i k : ℕ) → i < declared a + declared b → k < declared a + declared b → part (cell p t) 0 every i k ≡ row_matrix p a b i k
-    at i k li lk = ap₂ (cell p t) (zero-add i) (every_at k (omega arith)) ∙ h p i k (omega arith) (omega arith)
+    sum : length a - 1 + (length b - 1) ≡ declared a + declared b
+    sum = omega (arith, declared-length a some-a, declared-length b some-b)
+
+    size : length cols ≡ declared a + declared b
+    size = length-take-le (length a - 1 + (length b - 1)) every (omega (arith, sum)) ∙ sum
+
+    at : (i k : ℕ) → i < declared a + declared b → k < declared a + declared b → part (cell p t) 0 cols i k ≡ row_matrix p a b i k
+    at i k li lk =
+        ap₂ (cell p t) (zero-add i) (first_at (length a - 1 + (length b - 1)) k (omega (arith, sum)) (omega (arith, sum)))
+        ∙ h p i k (omega arith) (omega arith)

@@ -3,7 +3,6 @@
 --   sign_even, sign_odd    (-1)^j by the last binary digit of j
 --   det-signed             a determinant is the sum of its signed terms
 --   det-minor              a minor of a part of a matrix is a part again: one row further down, in the other columns
---   fewer_columns          the other columns are columns of a table
 --   remainder-below        a remainder by p is below p
 --   val-below              the number of a residue is below p
 --   det_none               the determinant of no rows is 1
@@ -16,16 +15,19 @@ use native.Mathlib.Numerals.{add-one}
 use native.Mathlib.Omega.{arith}
 use mathlib.Core.Path.{◌≡◌, refl, sym, ap, ap₂, subst, ◌∙◌}
 use mathlib.Core.List.{List}
-use lib.ListN.{get_or}
+use lib.ListN.{length, get_or}
+use Rattle.std.specs.List.{remove}
+use Rattle.std.proofs.lemmas.List.Edits.{length-remove}
 use Rattle.ring.specs.Ring.{Ring, sign}
 use Rattle.ring.specs.RingLaws.{one-⊗, zero-⊕, neg-⊗, neg-neg}
 use Rattle.ring.specs.Sum.{sum, alt}
 use Rattle.ring.specs.SumLaws.{sum-neg, sum_ext, sum-last}
-use Rattle.ring.specs.Det.{skip, minor, det}
-use Rattle.ring.specs.DetLaws.{skip-lt, det_ext}
+use Rattle.ring.specs.Det.{minor, det}
+use Rattle.ring.specs.DetLaws.{det_ext}
 use Rattle.residue.specs.Residue.{residues, res, val, val-𝟘, val-⊕, val-lt, val-𝟙, val-res_small, res-val, res-zero}
 use Rattle.residue.specs.Computed.{product-res, difference-res}
-use Rattle.plain.specs.Expansion.{cell, part, Columns, TakenOut, signed}
+use Rattle.plain.specs.Expansion.{cell, part, signed}
+use Rattle.plain.proofs.Columns.{removed}
 
 module _ (R : Ring) where
   open R use {C, ◌⊕◌, ◌⊗◌, ⊖◌, 𝟙}
@@ -56,21 +58,14 @@ module _ (R : Ring) where
   unfolding det signed
   det-signed n A = alt-sum (suc n) (λ j. A zero j ⊗ det R n (minor R A j))
 
-  pub det-minor : (A : ℕ → ℕ → C) (row : ℕ) (cols others : List ℕ) (j n : ℕ) → n ≤ 5
-      → TakenOut j cols others
-      → det R n (part A (row + 1) others) ≡ det R n (minor R (part A row cols) j)
+  pub det-minor : (A : ℕ → ℕ → C) (row : ℕ) (cols : List ℕ) (j n : ℕ) → j < length cols
+      → det R n (part A (row + 1) (remove cols j)) ≡ det R n (minor R (part A row cols) j)
   unfolding part
-  det-minor A row cols others j n most h =
-      det_ext R n _ _ (λ i k li lk. let down : row + 1 + i ≡ row + suc i = omega arith in ap₂ A down (h k (omega arith)))
+  det-minor A row cols j n inside =
+      det_ext R n _ _ (λ i k li lk. let down : row + 1 + i ≡ row + suc i = omega arith in ap₂ A down (removed cols j inside k))
 
 pub remainder-below : (p : ℕ) → 0 < p → (n : ℕ) {r : ℕ} → r ≡ n % p → r < p
 remainder-below p pos n e = subst (λ (z : ℕ). z < p) (sym e) (mod-lt n pos)
-
-pub fewer_columns : (cols others : List ℕ) (j left : ℕ) → 0 < left → left ≤ 6
-    → TakenOut j cols others → Columns left cols → Columns (left - 1) others
-fewer_columns cols others j left some most h all k l =
-    subst (λ (z : ℕ). z < 6) (sym (h k (omega arith)))
-    (all (skip j k) (omega (arith, skip-lt j k (left - 1) l)))
 
 module _ (p : ℕ) where
   open residues p use {C}
@@ -119,30 +114,37 @@ module _ (p : ℕ) where
       whole = omega arith
 
 -- the product q of an entry with its minor d, worked out from the columns without place j
-module _ (p : ℕ) (pos : 0 < p) (t cols others : List ℕ) (row j left : ℕ) (most : left ≤ 6)
-    (closed : TakenOut j cols others)
-    (d q : ℕ) (hd : d ≡ val p (det (residues p) (left - 1) (part (cell p t) (row + 1) others)))
+module _ (p : ℕ) (pos : 0 < p) (t cols others : List ℕ) (row j : ℕ) (inside : j < length cols)
+    (without-is : others ≡ remove cols j)
+    (d q : ℕ) (hd : d ≡ val p (det (residues p) (length others) (part (cell p t) (row + 1) others)))
     (hq : q ≡ (get_or t (row * 6 + get_or cols j 0) 0 * d) % p) where
   open residues p use {C, ◌⊕◌, ◌⊗◌, ⊖◌, 𝟙}
 
   -- the term without its sign
   unsigned : C
-  unsigned = part (cell p t) row cols zero j ⊗ det (residues p) (left - 1) (minor (residues p) (part (cell p t) row cols) j)
+  unsigned = part (cell p t) row cols zero j ⊗ det (residues p) (length cols - 1) (minor (residues p) (part (cell p t) row cols) j)
+
+  minor_is : det (residues p) (length others) (part (cell p t) (row + 1) others) ≡ det (residues p) (length cols - 1) (minor (residues p) (part (cell p t) row cols) j)
+  minor_is =
+      let size : length (remove cols j) ≡ length cols - 1 = omega (arith, length-remove cols j inside) in
+      ap (λ (l : List ℕ). det (residues p) (length l) (part (cell p t) (row + 1) l)) without-is
+      ∙ ap (λ (n : ℕ). det (residues p) n (part (cell p t) (row + 1) (remove cols j))) size
+      ∙ det-minor (residues p) (cell p t) row cols j (length cols - 1) inside
 
   product_is : res p q ≡ unsigned
   unfolding unsigned part cell
   product_is =
       product-res p pos (get_or t (row * 6 + get_or cols j 0) 0) d hq
       ∙ ap₂ (λ (y z : C). y ⊗ z) (ap (λ (i : ℕ). res p (get_or t (i * 6 + get_or cols j 0) 0)) (sym (add-zero row)))
-      (ap (res p) hd ∙ res-val p _ ∙ det-minor (residues p) (cell p t) row cols others j (left - 1) (omega arith) closed)
+      (ap (res p) hd ∙ res-val p _ ∙ minor_is)
 
-  pub term_even : j % 2 ≡ 0 → q ≡ val p (signed (residues p) (left - 1) (part (cell p t) row cols) j)
+  pub term_even : j % 2 ≡ 0 → q ≡ val p (signed (residues p) (length cols - 1) (part (cell p t) row cols) j)
   unfolding unsigned signed
   term_even even =
       sym (val-res_small (remainder-below p pos _ hq))
       ∙ ap (val p) (product_is ∙ sym (one-⊗ (residues p) unsigned) ∙ ap (λ (s : C). s ⊗ unsigned) (sym (sign_even (residues p) j even)))
 
-  pub term_odd : {r : ℕ} → (j % 2 ≡ 0 → ⊥) → r ≡ (0 + (p - q)) % p → r ≡ val p (signed (residues p) (left - 1) (part (cell p t) row cols) j)
+  pub term_odd : {r : ℕ} → (j % 2 ≡ 0 → ⊥) → r ≡ (0 + (p - q)) % p → r ≡ val p (signed (residues p) (length cols - 1) (part (cell p t) row cols) j)
   unfolding unsigned signed
   term_odd odd hr =
       sym (val-res_small (remainder-below p pos _ hr))

@@ -3,11 +3,10 @@
 --   cell p t i k             the residue modulo p of the number in row i and column k of the table t
 --   part A row cols          the matrix A from its row `row` on, in the columns that cols lists
 --   Columns n cols           the first n entries of cols are columns of a table
---   TakenOut j cols others   others lists the six columns of cols without the one at place j
 --   signed R n A j           the term of column j in the expansion of the (n+1) by (n+1) matrix A along its first row
-use Rattle.std.specs.Prelude.{ℕ, zero, ◌+◌, ◌*◌, ◌<◌, ◌≡◌, List, get_or}
+use Rattle.std.specs.Prelude.{ℕ, zero, ◌+◌, ◌*◌, ◌<◌, List, get_or}
 use Rattle.ring.specs.Ring.{Ring, sign}
-use Rattle.ring.specs.Det.{skip, det, minor}
+use Rattle.ring.specs.Det.{det, minor}
 use Rattle.residue.specs.Residue.{residues, res}
 
 unfoldable pub cell : (p : ℕ) → List ℕ → ℕ → ℕ → Ring.C (residues p)
@@ -18,9 +17,6 @@ part A row cols i k = A (row + i) (get_or cols k 0)
 
 abbrev pub Columns : ℕ → List ℕ → Type 0
 Columns n cols = (k : ℕ) → k < n → get_or cols k 0 < 6
-
-abbrev pub TakenOut : ℕ → List ℕ → List ℕ → Type 0
-TakenOut j cols others = (k : ℕ) → k < 5 → get_or others k 0 ≡ get_or cols (skip j k) 0
 
 module _ (R : Ring) where
   open R use {C, ◌⊗◌}

@@ -2,17 +2,15 @@
 --
 --   counted_none                       no point is below 0
 --   counted-take, counted_skip         the number of usable points after one point more: usable, not usable
---   enough_found, enough_missing       whether there are enough: as many were found, or all were looked at
+--   counting                           these, for the loop
 --   passed-skip                        the usable points do not change over a point that is not usable
-use Prim.Native.Nat.{ℕ, ◌+◌, ◌<◌, ◌≤◌}
+use Prim.Native.Nat.{ℕ, ◌+◌}
 use native.Mathlib.Numerals.{add-one}
 use native.Mathlib.Omega.{arith}
 use mathlib.Core.Bool.{true, false}
 use mathlib.Core.List.{[], ◌∷◌}
 use mathlib.Core.Path.{◌≡◌, refl, sym, ap, ◌∙◌}
-use lib.Dec.{leb}
 use lib.ListN.{length, length-append}
-use borrow.Author.Tests.{le-leb, lt-leb}
 use Rattle.scope.specs.Pair.{Pair}
 use Rattle.scope.specs.Point.{usable, usables}
 use Rattle.points.specs.Usables.{usables-skip, usables-take, usables_more}
@@ -32,8 +30,4 @@ module _ (P : Pair) where
   counted-take a e h =
       omega (arith, ap (λ (n : ℕ). length (usables P n)) (add-one a), ap length (usables-take P a h), length-append (usables P a) (a ∷ []))
 
-  pub enough_found : (wanted : ℕ) {found : ℕ} (a k : ℕ) → found ≡ length (usables P a) → a ≤ k → wanted ≤ found → true ≡ leb wanted (length (usables P k))
-  enough_found wanted a k e l enough = sym (le-leb wanted (length (usables P k)) (omega (arith, usables_more P a k l)))
-
-  pub enough_missing : (wanted : ℕ) {found : ℕ} (a k : ℕ) → found ≡ length (usables P a) → a ≡ k → found < wanted → false ≡ leb wanted (length (usables P k))
-  enough_missing wanted a k e at few = sym (lt-leb wanted (length (usables P k)) (omega (arith, ap (λ (n : ℕ). length (usables P n)) at)))
+pub ruleset counting = (counted_none, counted_skip, counted-take, usables_more)

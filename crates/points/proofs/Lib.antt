@@ -6,3 +6,4 @@ pub mod Linear
 pub mod Newton
 pub mod Rows
 pub mod Counting
+pub mod WorkRows

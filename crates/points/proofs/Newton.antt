@@ -1,9 +1,8 @@
 -- Newton's rule on lists: what stands in the two lists after n points.
 --
---   Reached base n l t     l has the coefficients of the polynomial through the first n points, and after them what base
---                          has; t has those of the product of y - x i, i < n
+--   Reached n l t          l has the coefficients of the polynomial through the first n points, and t those of the product
+--                          of y - x i, i < n
 --   reached_first          before the first point
---   reached-length         l is as long as base
 --   reached-nonzero        the product is not 0 at the next point
 --   reached-below          its coefficients are below p
 --   reached-next           one point more
@@ -13,13 +12,13 @@ use native.Mathlib.Decide.{dec_lt}
 use native.Mathlib.Nat.{mod-lt, le_of_lt, le-suc, pos_of_ne-zero}
 use native.Mathlib.Numerals.{add-one}
 use native.Mathlib.Omega.{arith}
-use mathlib.Core.Bool.{Bool, cond}
-use mathlib.Core.List.{List, ◌++◌}
+use mathlib.Core.List.{List, ◌∷◌, ◌++◌}
+use lib.ListN.{take, drop}
 use mathlib.Core.Path.{◌≡◌, refl, sym, ap, ap₂, ◌∙◌}
-use lib.Dec.{eqb}
-use borrow.Author.Tests.{ne_eqb}
-use lib.ListN.{length, get_or, drop}
-use lib.Seq.{drop_at}
+use lib.ListN.{length, get_or, set, replicate, length-set}
+use lib.Seq.{get_or-set_same, get_or-set_other}
+use Rattle.std.proofs.lemmas.List.{length-replicate, get_or-replicate, get_or-take}
+use Rattle.std.proofs.Common.{length-take, length-take-le}
 use Rattle.ring.specs.RingLaws.{zero-⊕, zero-⊗, neg-⊗}
 use Rattle.residue.specs.Prime.{Prime}
 use Rattle.residue.specs.Computed.{difference-res, product-res, mul-sub-res, inverse-res}
@@ -29,10 +28,10 @@ use Rattle.polynomial.specs.Convolution.{one}
 use Rattle.polynomial.specs.Value.{value, value_ext, value-enough}
 use Rattle.polynomial.specs.Interpolation.{newton, newton-bound, weight, product, product_none, product_first, product-next, product-bound}
 use Rattle.scope.specs.Point.{tabulate}
-use Rattle.scope.specs.Degree.{tabulate-length, tabulate-get_or}
 use Rattle.scope.specs.Recovery.{Different, different_invertible}
 use Rattle.points.specs.Step.{value_of, weight_of, plus_multiple, times_linear}
-use Rattle.points.proofs.Stores.{front_new, front_old, front_length, front_more, tabulate_ext}
+use Rattle.points.proofs.Stores.{list_of, front_new, front_old, front_length}
+use Rattle.points.proofs.Horner.{value_front}
 
 module _ (p : ℕ) (count : ℕ) (xs vs : List ℕ) where
   open residues p use {C, ◌⊕◌, ◌⊗◌, ⊖◌, 𝟘, 𝟙, ⊕_comm}
@@ -46,43 +45,46 @@ module _ (p : ℕ) (count : ℕ) (xs vs : List ℕ) where
   abbrev coefficient : ℕ → ℕ → ℕ
   coefficient n k = val p (newton (residues p) (inv p) x v n k)
 
-  pub record Reached (base : List ℕ) (n : ℕ) (l t : List ℕ) : Type 0 where
+  pub record Reached (n : ℕ) (l t : List ℕ) : Type 0 where
     pub within : n ≤ count
-    pub room : count ≤ length base
-    pub long : length t ≡ 514
-    pub coefficients : l ≡ tabulate count (coefficient n) ++ drop count base
+    pub long_l : length l ≡ count
+    pub long_t : length t ≡ 514
+    pub coefficients : (k : ℕ) → k < count → get_or l k 0 ≡ coefficient n k
     pub products : (k : ℕ) → k < 514 → get_or t k 0 ≡ val p (product (residues p) n x k)
-
-  pub reached-length : {base : List ℕ} {n : ℕ} {l t : List ℕ} → Reached base n l t → length l ≡ length base
-  reached-length {base} {n} h = ap length h.coefficients ∙ front_length (coefficient n) count base h.room
 
   module _ (two : 2 ≤ p) where
     pos : 0 < p
     pos = omega arith
 
     -- the start of the product
-    one-val : (k : ℕ) → cond (eqb k 0) 1 0 ≡ val p (one (residues p) k)
+    one-val : (t : List ℕ) → t ≡ set (replicate 514 0) 0 1 → (k : ℕ) → k < 514 → get_or t k 0 ≡ val p (one (residues p) k)
     unfolding one
-    one-val zero = sym (val-𝟙 p two)
-    one-val (suc k) = ap (λ (b : Bool). cond b 1 0) (ne_eqb (suc k) 0 (omega arith)) ∙ sym (val-𝟘 p)
+    one-val t e k b = ap (λ (r : List ℕ). get_or r k 0) e ∙ go k b
+      where
+        go : (k : ℕ) → k < 514 → get_or (set (replicate 514 0) 0 1) k 0 ≡ val p (one (residues p) k)
+        go zero b = get_or-set_same (replicate 514 0) 0 1 0 (omega (arith, length-replicate {A = ℕ} 514 0)) ∙ sym (val-𝟙 p two)
+        go (suc k) b =
+            get_or-set_other (replicate 514 0) 0 (suc k) 1 0 (λ q. omega arith)
+            ∙ get_or-replicate {A = ℕ} 514 (suc k) 0 0 b ∙ sym (val-𝟘 p)
 
-    pub reached_first : (entry : List ℕ) {l t : List ℕ} → count ≤ length entry → l ≡ tabulate count (λ _. 0) ++ drop count entry → t ≡ tabulate 514 (λ k. cond (eqb k 0) 1 0)
-        → Reached l 0 l t
+    pub reached_first : {l t : List ℕ} → l ≡ replicate count 0 → t ≡ set (replicate 514 0) 0 1 → Reached 0 l t
     unfolding newton
-    reached_first entry {l} {t} fits el et =
+    reached_first {l} {t} el et =
         record {
           within = omega arith;
-          room = omega (arith, ap length el, front_length (λ _. 0) count entry fits);
-          long = ap length et ∙ tabulate-length 514 (λ k. cond (eqb k 0) 1 0);
-          coefficients =
-              el
-              ∙ ap₂ (λ (r s : List ℕ). r ++ s) (tabulate_ext count (λ _. 0) (coefficient 0) (λ k b. sym (val-𝟘 p)))
-              (sym (ap (drop count) el ∙ drop_at (tabulate count (λ _. 0)) (drop count entry) count (tabulate-length count (λ _. 0))));
-          products = λ k b. ap (λ (r : List ℕ). get_or r k 0) et ∙ tabulate-get_or 514 (λ k. cond (eqb k 0) 1 0) k b ∙ one-val k ∙ ap (λ (f : ℕ → C). val p (f k)) (sym (product_none (residues p) x));
+          long_l = ap length el ∙ length-replicate {A = ℕ} count 0;
+          long_t = ap length et ∙ length-set {A = ℕ} (replicate 514 0) 0 1 ∙ length-replicate {A = ℕ} 514 0;
+          coefficients = λ k b. ap (λ (r : List ℕ). get_or r k 0) el ∙ get_or-replicate {A = ℕ} count k 0 0 b ∙ sym (val-𝟘 p);
+          products = λ k b. one-val t et k b ∙ ap (λ (f : ℕ → C). val p (f k)) (sym (product_none (residues p) x));
         }
 
-    pub reached-below : {base : List ℕ} {n : ℕ} {l t : List ℕ} → Reached base n l t → (k : ℕ) → k < 514 → get_or t k 0 < p
+    pub reached-below : {n : ℕ} {l t : List ℕ} → Reached n l t → (k : ℕ) → k < 514 → get_or t k 0 < p
     reached-below {n = n} h k b = omega (arith, h.products k b, val-lt p pos (product (residues p) n x k))
+
+    pub reached-small : {n : ℕ} {l t : List ℕ} → Reached n l t → (m k : ℕ) → k < length (take m t) → get_or (take m t) k 0 < p
+    reached-small {t = t} h m k b =
+        let small : k < m = omega (arith, length-take m t) in
+        omega (arith, get_or-take m t k 0 small, reached-below h k (omega (arith, length-take m t, h.long_t)))
 
     -- a remainder by p is the number of its residue
     number : (r : ℕ) {y : C} → r < p → res p r ≡ y → r ≡ val p y
@@ -95,19 +97,16 @@ module _ (p : ℕ) (count : ℕ) (xs vs : List ℕ) where
     value_same n l f a h =
         ap (val p) (value_ext (residues p) n (λ j. res p (get_or l j 0)) f (res p a) (λ k b. ap (res p) (h k b) ∙ res-val p (f k)))
 
-    module _ {base : List ℕ} {n : ℕ} {l t : List ℕ} (h : Reached base n l t) (more : n < count) (few : count ≤ 513) where
+    module _ {n : ℕ} {l t : List ℕ} (h : Reached n l t) (more : n < count) (few : count ≤ 513) where
       abbrev f : ℕ → C
       f = newton (residues p) (inv p) x v n
 
       abbrev g : ℕ → C
       g = product (residues p) n x
 
-      entry : (k : ℕ) → k < count → get_or l k 0 ≡ val p (f k)
-      entry k b = ap (λ (r : List ℕ). get_or r k 0) h.coefficients ∙ front_new (coefficient n) count base k b
-
       at_list : value_of p (suc n) l (get_or xs n 0) ≡ val p (value (residues p) n f (x n))
       at_list =
-          value_same (suc n) l f (get_or xs n 0) (λ k b. entry k (omega arith))
+          value_same (suc n) l f (get_or xs n 0) (λ k b. h.coefficients k (omega arith))
           ∙ ap (val p) (value-enough (residues p) n (suc n) f (x n) (le-suc n) (newton-bound (residues p) (inv p) x v n))
 
       at-product : value_of p (suc n) t (get_or xs n 0) ≡ val p (value (residues p) (suc n) g (x n))
@@ -130,7 +129,7 @@ module _ (p : ℕ) (count : ℕ) (xs vs : List ℕ) where
               omega arith
 
       abbrev c : ℕ
-      c = weight_of p n (get_or vs n 0) l t (get_or xs n 0)
+      c = weight_of p (suc n) (get_or vs n 0) l t (get_or xs n 0)
 
       c_weight : res p c ≡ weight (residues p) (inv p) x v n f
       unfolding weight_of weight
@@ -159,7 +158,7 @@ module _ (p : ℕ) (count : ℕ) (xs vs : List ℕ) where
           ∙ res-+ p (c * get_or t k 0) (get_or l k 0)
           ∙ ap₂ (λ (s r : C). s ⊕ r)
           (res-* p c (get_or t k 0) ∙ ap₂ (λ (s r : C). s ⊗ r) c_weight (ap (res p) (h.products k (omega arith)) ∙ res-val p (g k)))
-          (ap (res p) (entry k (omega arith)) ∙ res-val p (f k))
+          (ap (res p) (h.coefficients k (omega arith)) ∙ res-val p (f k))
           ∙ ⊕_comm (weight (residues p) (inv p) x v n f ⊗ g k) (f k))
 
       coefficient_old : (k : ℕ) → n + 1 ≤ k → k < count → coefficient n k ≡ coefficient (suc n) k
@@ -185,28 +184,89 @@ module _ (p : ℕ) (count : ℕ) (xs vs : List ℕ) where
       product_old : (k : ℕ) → n + 2 ≤ k → val p (g k) ≡ val p (product (residues p) (suc n) x k)
       product_old k a = ap (val p) (product-bound (residues p) n x k (omega arith) ∙ sym (product-bound (residues p) (suc n) x k (omega arith)))
 
-      pub reached-next : {l' t' : List ℕ}
-          → l' ≡ tabulate (n + 1) (plus_multiple p c t l) ++ drop (n + 1) l → t' ≡ tabulate (n + 2) (times_linear p (get_or xs n 0) t) ++ drop (n + 2) t
-          → Reached base (n + 1) l' t'
-      reached-next {l'} {t'} el et =
+      reached-entries : {l' t' : List ℕ} → length l' ≡ length l → length t' ≡ length t
+          → ((k : ℕ) → k < n + 1 → get_or l' k 0 ≡ plus_multiple p c t l k) → ((k : ℕ) → n + 1 ≤ k → get_or l' k 0 ≡ get_or l k 0)
+          → ((k : ℕ) → k < n + 2 → get_or t' k 0 ≡ times_linear p (get_or xs n 0) t k) → ((k : ℕ) → n + 2 ≤ k → get_or t' k 0 ≡ get_or t k 0)
+          → Reached (n + 1) l' t'
+      reached-entries {l'} {t'} long-l long-t l_new l_old t_new t_old =
           record {
             within = omega arith;
-            room = h.room;
-            long = ap length et ∙ front_length (times_linear p (get_or xs n 0) t) (n + 2) t (omega (arith, h.long)) ∙ h.long;
-            coefficients =
-                el
-                ∙ ap (λ (r : List ℕ). tabulate (n + 1) (plus_multiple p c t l) ++ drop (n + 1) r) h.coefficients
-                ∙ front_more (plus_multiple p c t l) (coefficient n) (coefficient (suc n)) (n + 1) count base (omega arith) h.room coefficient_new coefficient_old
-                ∙ ap (λ (i : ℕ). tabulate count (coefficient i) ++ drop count base) (sym (add-one n));
-            products = λ k b. ap (λ (r : List ℕ). get_or r k 0) et ∙ elim (dec_lt k (n + 2)) [
-              | yes a ↦ front_new (times_linear p (get_or xs n 0) t) (n + 2) t k a ∙ product_new k a
-              | no a ↦ front_old (times_linear p (get_or xs n 0) t) (n + 2) t k (omega arith) ∙ h.products k b ∙ product_old k (omega arith)
+            long_l = long-l ∙ h.long_l;
+            long_t = long-t ∙ h.long_t;
+            coefficients = λ k b. elim (dec_lt k (n + 1)) [
+              | yes a ↦ l_new k a ∙ coefficient_new k a
+              | no a ↦ l_old k (omega arith) ∙ h.coefficients k b ∙ coefficient_old k (omega arith) b
+            ] ∙ ap (λ (i : ℕ). coefficient i k) (sym (add-one n));
+            products = λ k b. elim (dec_lt k (n + 2)) [
+              | yes a ↦ t_new k a ∙ product_new k a
+              | no a ↦ t_old k (omega arith) ∙ h.products k b ∙ product_old k (omega arith)
             ] ∙ ap (λ (i : ℕ). val p (product (residues p) i x k)) (sym (add-one n));
           }
 
-  pub reached-last : (entry : List ℕ) {base : List ℕ} {n : ℕ} {l t : List ℕ} → Reached base n l t → n ≡ count → base ≡ tabulate count (λ _. 0) ++ drop count entry
-      → l ≡ tabulate count (coefficient count) ++ drop count entry
-  reached-last entry {base} {n} {l} h e eb =
-      h.coefficients
-      ∙ ap₂ (λ (i : ℕ) (r : List ℕ). tabulate count (coefficient i) ++ r) e
-      (ap (drop count) eb ∙ drop_at (tabulate count (λ _. 0)) (drop count entry) count (tabulate-length count (λ _. 0)))
+      -- the fronts of the two lists, which one step sees and writes
+      abbrev l-front : List ℕ
+      l-front = take (n + 1) l
+
+      abbrev t-front : List ℕ
+      t-front = take (n + 2) t
+
+      l-long : length l-front ≡ n + 1
+      l-long = length-take-le (n + 1) l (omega (arith, h.long_l))
+
+      t-long : length t-front ≡ n + 2
+      t-long = length-take-le (n + 2) t (omega (arith, h.long_t))
+
+      front_value : (k : ℕ) (r : List ℕ) → n < k → value_of p (length l-front) (take k r) (get_or xs n 0) ≡ value_of p (suc n) r (get_or xs n 0)
+      front_value k r b =
+          ap (λ (m : ℕ). value_of p m (take k r) (get_or xs n 0)) (l-long ∙ add-one n) ∙ value_front p (get_or xs n 0) (suc n) k r (omega arith)
+
+      pub reached-front : 0 < value_of p (suc n) t (get_or xs n 0) → 0 < value_of p (length l-front) t-front (get_or xs n 0)
+      reached-front some = omega (arith, front_value (n + 2) t (omega arith))
+
+      -- one step on the fronts is that step on the lists
+      front_sum : (k : ℕ) → k < n + 1
+          → plus_multiple p (weight_of p (length l-front) (get_or vs n 0) l-front t-front (get_or xs n 0)) t-front l-front k ≡ plus_multiple p c t l k
+      unfolding plus_multiple weight_of
+      front_sum k b =
+          ap₂ (λ (u z : ℕ). (((get_or vs n 0 + (p - u)) % p * inverse p z % p) * get_or t-front k 0 + get_or l-front k 0) % p)
+          (front_value (n + 1) l (omega arith)) (front_value (n + 2) t (omega arith))
+          ∙ ap₂ (λ (s r : ℕ). (c * s + r) % p) (get_or-take (n + 2) t k 0 (omega arith)) (get_or-take (n + 1) l k 0 b)
+
+      front_product : (k : ℕ) → k < n + 2 → times_linear p (get_or xs n 0) t-front k ≡ times_linear p (get_or xs n 0) t k
+      unfolding times_linear
+      front_product k b = ap₂ (λ (s r : ℕ). (s + (p - (get_or xs n 0 * r) % p)) % p) (shifted k b) (get_or-take (n + 2) t k 0 b)
+        where
+          shifted : (k : ℕ) → k < n + 2 → get_or (0 ∷ t-front) k 0 ≡ get_or (0 ∷ t) k 0
+          shifted zero b = refl
+          shifted (suc k) b = get_or-take (n + 2) t k 0 (omega arith)
+
+      pub reached-next : {l' t' : List ℕ}
+          → l' ≡ tabulate (length l-front) (plus_multiple p (weight_of p (length l-front) (get_or vs n 0) l-front t-front (get_or xs n 0)) t-front l-front)
+          → t' ≡ tabulate (length t-front) (times_linear p (get_or xs n 0) t-front)
+          → Reached (n + 1) (l' ++ drop (n + 1) l) (t' ++ drop (n + 2) t)
+      reached-next {l'} {t'} el et =
+          reached-entries
+          (ap length l-is ∙ front_length sums (n + 1) l (omega (arith, h.long_l)))
+          (ap length t-is ∙ front_length products (n + 2) t (omega (arith, h.long_t)))
+          (λ k b. ap (λ (r : List ℕ). get_or r k 0) l-is ∙ front_new sums (n + 1) l k b ∙ front_sum k b)
+          (λ k b. ap (λ (r : List ℕ). get_or r k 0) l-is ∙ front_old sums (n + 1) l k b)
+          (λ k b. ap (λ (r : List ℕ). get_or r k 0) t-is ∙ front_new products (n + 2) t k b ∙ front_product k b)
+          (λ k b. ap (λ (r : List ℕ). get_or r k 0) t-is ∙ front_old products (n + 2) t k b)
+        where
+          sums : ℕ → ℕ
+          sums = plus_multiple p (weight_of p (length l-front) (get_or vs n 0) l-front t-front (get_or xs n 0)) t-front l-front
+
+          products : ℕ → ℕ
+          products = times_linear p (get_or xs n 0) t-front
+
+          l-is : l' ++ drop (n + 1) l ≡ tabulate (n + 1) sums ++ drop (n + 1) l
+          l-is = ap (λ (r : List ℕ). r ++ drop (n + 1) l) (el ∙ ap (λ (m : ℕ). tabulate m sums) l-long)
+
+          t-is : t' ++ drop (n + 2) t ≡ tabulate (n + 2) products ++ drop (n + 2) t
+          t-is = ap (λ (r : List ℕ). r ++ drop (n + 2) t) (et ∙ ap (λ (m : ℕ). tabulate m products) t-long)
+
+  pub reached-last : {n : ℕ} {l t : List ℕ} → Reached n l t → count ≤ n → l ≡ tabulate count (coefficient count)
+  reached-last {n} {l} h e = list_of (coefficient count) l h.long_l (λ k b. h.coefficients k b ∙ ap (λ (i : ℕ). coefficient i k) all)
+    where
+      all : n ≡ count
+      all = omega (arith, h.within)

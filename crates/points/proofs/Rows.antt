@@ -3,64 +3,57 @@
 --   term_at       a term of a table of 289 entries is the entry at 17 i + j
 --   row-value     the value of a row up to the largest power that occurs is the value of the whole row
 --   row-stored    the values of the rows 0 to m, stored one by one
---   first-zero, first-nonzero         whether a point is usable, by the value of the first leading row
 --   occurs_here, occurs_nowhere       whether a power of y occurs, by the entries
 use Prim.Native.Nat.{ℕ, suc, ◌+◌, ◌*◌, ◌<◌, ◌≤◌}
 use native.Mathlib.Numerals.{add-one}
 use native.Mathlib.Omega.{arith}
-use mathlib.Core.Bool.{Bool, true, false, cond, not, ◌&&◌}
-use mathlib.Core.List.{List, ◌++◌}
+use mathlib.Core.Bool.{Bool, true, false, cond}
+use mathlib.Core.List.{List}
 use mathlib.Core.Path.{◌≡◌, sym, ap, ◌∙◌}
-use lib.ListN.{length, get_or, drop}
-use lib.Dec.{eqb}
-use borrow.Author.Tests.{le-leb, ne_eqb}
+use lib.ListN.{length, get_or, take, drop, length-drop}
+use Rattle.std.proofs.Common.{length-take-le}
+use lib.Seq.{get_or-drop}
+use Rattle.std.proofs.lemmas.List.{get_or-take}
+use borrow.Author.Tests.{le-leb}
 use Rattle.ring.specs.Ring.{Ring}
 use Rattle.residue.specs.Residue.{residues, res, val, res-zero}
 use Rattle.polynomial.specs.Value.{value, value_ext, value_more}
-use Rattle.scope.specs.Pair.{place, term, tables, occurs, polynomial}
-use Rattle.scope.specs.Point.{tabulate, value_at, row_at, usable}
-use Rattle.points.specs.Table.{Table}
-use Rattle.points.proofs.Stores.{Stored, stored_list}
+use Rattle.scope.specs.Pair.{place, term, occurs, polynomial}
+use Rattle.scope.specs.Point.{tabulate, value_at, row_at}
+use Rattle.points.specs.Table.{IsTable}
+use Rattle.points.specs.Step.{value_of}
+use Rattle.points.proofs.Stores.{Stored, stored_all}
 use Rattle.points.proofs.Searches.{some-nonzero, none-nonzero}
 
 pub term_at : (t : List ℕ) (i j : ℕ) → j ≤ 16 → term 16 t i j ≡ get_or t (i * 17 + j) 0
 unfolding term place
 term_at t i j h = ap (λ (b : Bool). cond b (get_or t (i * 17 + j) 0) 0) (le-leb j 16 h)
 
-pub row-value : (p a : ℕ) {m d : ℕ} {t : List ℕ} → Table m d t → (i : ℕ) → i ≤ m → {r : ℕ}
-    → r ≡ val p (value (residues p) (suc d) (λ j. res p (get_or t (i * 17 + j) 0)) (res p a)) → r ≡ value_at p 16 (term 16 t) i a
-unfolding value_at polynomial
-row-value p a {m} {d} {t} h i l e =
-    e
-    ∙ ap (val p) (value_ext (residues p) (suc d) (λ j. res p (get_or t (i * 17 + j) 0)) (λ j. res p (term 16 t i j)) (res p a) entry
+pub row-value : (p a : ℕ) {m d : ℕ} {t : List ℕ} → IsTable m d t → (i : ℕ) → i ≤ m → (n : ℕ) → n ≡ suc d → {r : ℕ}
+    → r ≡ value_of p (length (take n (drop (i * 17) t))) (take n (drop (i * 17) t)) a → r ≡ value_at p 16 (term 16 t) i a
+unfolding value_at polynomial value_of
+row-value p a {m} {d} {t} h i l n e at =
+    at
+    ∙ ap (λ (k : ℕ). val p (value (residues p) k (λ j. res p (get_or row j 0)) (res p a))) long
+    ∙ ap (val p) (value_ext (residues p) (suc d) (λ j. res p (get_or row j 0)) (λ j. res p (term 16 t i j)) (res p a) entry
     ∙ sym (value_more (residues p) d 16 (λ j. res p (term 16 t i j)) (res p a) high h.powers))
   where
-    entry : (j : ℕ) → j < suc d → res p (get_or t (i * 17 + j) 0) ≡ res p (term 16 t i j)
-    entry j b = ap (res p) (sym (term_at t i j (omega (arith, h.powers))))
+    row : List ℕ
+    row = take n (drop (i * 17) t)
+
+    long : length row ≡ suc d
+    long = length-take-le n (drop (i * 17) t) (omega (arith, length-drop (i * 17) t, h.entries, h.rows, h.powers)) ∙ e
+
+    entry : (j : ℕ) → j < suc d → res p (get_or row j 0) ≡ res p (term 16 t i j)
+    entry j b = ap (res p) (get_or-take n (drop (i * 17) t) j 0 (omega arith) ∙ get_or-drop (i * 17) t j 0 ∙ sym (term_at t i j (omega (arith, h.powers))))
 
     high : (j : ℕ) → d < j → res p (term 16 t i j) ≡ Ring.𝟘 (residues p)
     high j b = ap (res p) (h.above i j l b) ∙ res-zero p
 
-pub row-stored : (p m a : ℕ) (A : ℕ → ℕ → ℕ) {i : ℕ} {l k : List ℕ} → Stored (λ r. value_at p 16 A r a) 0 i l k → i ≡ m + 1 → m + 1 ≤ length l
-    → k ≡ row_at p m 16 A a ++ drop (m + 1) l
+pub row-stored : (p m a : ℕ) (A : ℕ → ℕ → ℕ) {i : ℕ} {l k : List ℕ} → Stored (λ r. value_at p 16 A r a) 0 i l k → i ≡ length l → length l ≡ m + 1
+    → k ≡ row_at p m 16 A a
 unfolding row_at
-row-stored p m a A {i} {l} {k} h e room =
-    stored_list f (m + 1) h e room ∙ ap (λ (n : ℕ). tabulate n f ++ drop (m + 1) l) (add-one m)
-  where
-    f : ℕ → ℕ
-    f r = value_at p 16 A r a
-
-module _ (p m n : ℕ) (s t : List ℕ) (a : ℕ) {u : ℕ} (at : u ≡ value_at p 16 (term 16 s) m a) where
-  pub first-zero : u ≡ 0 → false ≡ usable (tables p m 16 n 16 s t) a
-  unfolding usable tables
-  first-zero z = sym (ap (λ (x : ℕ). not (eqb x 0) && not (eqb (value_at p 16 (term 16 t) n a) 0)) (sym at ∙ z))
-
-  pub first-nonzero : (u ≡ 0 → ⊥) → {v : ℕ} → v ≡ value_at p 16 (term 16 t) n a → not (eqb v 0) ≡ usable (tables p m 16 n 16 s t) a
-  unfolding usable tables
-  first-nonzero some {v} too =
-      sym (ap (λ (x : ℕ). not (eqb x 0) && not (eqb (value_at p 16 (term 16 t) n a) 0)) (sym at)
-      ∙ ap (λ (b : Bool). not b && not (eqb (value_at p 16 (term 16 t) n a) 0)) (ne_eqb u 0 some)
-      ∙ ap (λ (x : ℕ). not (eqb x 0)) (sym too))
+row-stored p m a A h e long = stored_all (λ r. value_at p 16 A r a) h e ∙ ap (λ (n : ℕ). tabulate n (λ r. value_at p 16 A r a)) (long ∙ add-one m)
 
 module _ (t : List ℕ) (m j : ℕ) (low : j ≤ 16) where
   pub occurs_here : (i : ℕ) → i ≤ m → (get_or t (i * 17 + j) 0 ≡ 0 → ⊥) → true ≡ occurs m (term 16 t) j

@@ -2,17 +2,20 @@
 --
 --   some-nonzero      f i is not 0, so some f k is not
 --   none-nonzero      every f k is 0
---   not_all, all      the same, as a test that all are 0
+--   last_degree       what a search from the top down has found is the degree
 --   Above e o j       no index above j, up to e, passes o
 --   above_first       nothing stands above e
 --   above-next        j fails too
 --   above_found       j passes: it is the largest
 --   above_none        nothing is left but 0
 use Prim.Native.Nat.{ℕ, ◌-◌, ◌<◌, ◌≤◌}
-use native.Mathlib.Decide.{ℕ_discrete}
+use Rattle.std.proofs.lemmas.Grind.{common_steps}
 use native.Mathlib.Omega.{arith}
-use mathlib.Core.Bool.{Bool, true, false, not}
-use mathlib.Core.Path.{◌≡◌, sym, ap, ◌∙◌}
+use mathlib.Core.Bool.{Bool, true, false, not, cond}
+use mathlib.Core.List.{List}
+use lib.ListN.{length, get_or}
+use Rattle.std.proofs.Common.{Option, Some, None}
+use mathlib.Core.Path.{◌≡◌, refl, sym, ap, ◌∙◌}
 use lib.Dec.{eqb}
 use borrow.Author.Tests.{eq-eqb, ne_eqb}
 use Rattle.scope.specs.Pair.{some, largest}
@@ -23,12 +26,6 @@ some-nonzero n f i l h = one-some n (λ k. not (eqb (f k) 0)) i l (ap not (ne_eq
 
 pub none-nonzero : (n : ℕ) (f : ℕ → ℕ) → ((k : ℕ) → k < n → f k ≡ 0) → some n (λ k. not (eqb (f k) 0)) ≡ false
 none-nonzero n f h = none-some n (λ k. not (eqb (f k) 0)) (λ k l. ap not (eq-eqb (f k) 0 (h k l)))
-
-pub not_all : (n : ℕ) (f : ℕ → ℕ) (i : ℕ) → i < n → (f i ≡ 0 → ⊥) → false ≡ not (some n (λ k. not (eqb (f k) 0)))
-not_all n f i l h = sym (ap not (some-nonzero n f i l h))
-
-pub all : (n : ℕ) (f : ℕ → ℕ) → ((k : ℕ) → k < n → f k ≡ 0) → true ≡ not (some n (λ k. not (eqb (f k) 0)))
-all n f h = sym (ap not (none-nonzero n f h))
 
 module _ (e : ℕ) (o : ℕ → Bool) where
   pub record Above (j : ℕ) : Type 0 where
@@ -42,7 +39,7 @@ module _ (e : ℕ) (o : ℕ → Bool) where
   above-next {j} h some at =
       record {
         within = omega (arith, h.within);
-        fails = λ k b l. elim (ℕ_discrete k j) [ yes q ↦ ap o q ∙ at | no q ↦ h.fails k b (omega arith) ];
+        fails = λ k b l. grind (arith, common_steps, h.fails k b);
       }
 
   pub above_found : {j : ℕ} → Above j → o j ≡ true → j ≡ largest e o
@@ -50,3 +47,16 @@ module _ (e : ℕ) (o : ℕ → Bool) where
 
   pub above_none : {j : ℕ} → Above j → j ≡ 0 → 0 ≡ largest e o
   above_none {j} h none = largest_is e o 0 (omega arith) (λ k b l. h.fails k b (omega arith)) (λ l. absurd (omega arith))
+
+-- what a search from the top down has found is the degree
+pub last_degree : (l : List ℕ) (r : Option ℕ)
+    → (r ≡ None → (k : ℕ) → k < length l → get_or l k 0 ≡ 0)
+    → ((i : ℕ) → r ≡ Some i → (i < length l) × (get_or l i 0 ≡ 0 → ⊥) × ((k : ℕ) → i < k → k < length l → get_or l k 0 ≡ 0))
+    → r ≡ cond (some (length l) (λ k. not (eqb (get_or l k 0) 0))) (Some (largest (length l - 1) (λ k. not (eqb (get_or l k 0) 0)))) None
+last_degree l None none found =
+    ap (λ (b : Bool). cond b (Some (largest (length l - 1) (λ k. not (eqb (get_or l k 0) 0)))) None) (sym (none-nonzero (length l) (λ k. get_or l k 0) (none refl)))
+last_degree l (Some i) none found =
+    let (inside, here, above) = found i refl in
+    ap Some (largest_is (length l - 1) (λ k. not (eqb (get_or l k 0) 0)) i (omega arith)
+    (λ k b a. ap not (eq-eqb (get_or l k 0) 0 (above k a (omega arith)))) (λ _. ap not (ne_eqb (get_or l i 0) 0 here)))
+    ∙ ap (λ (b : Bool). cond b (Some (largest (length l - 1) (λ k. not (eqb (get_or l k 0) 0)))) None) (sym (some-nonzero (length l) (λ k. get_or l k 0) i inside here))

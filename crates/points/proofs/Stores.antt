@@ -5,18 +5,18 @@
 --   stored_up              one turn upwards
 --   stored_down            one turn downwards
 --   kept-below             an entry not stored to is below p where it was
---   stored_list            all from 0 on: the list itself
+--   stored_all             every entry, so the list itself
+--   list_of                a list with the entries f i
 --   front_new, front_old   the entries of such a list
 --   front_length           its length
---   front_more             a front stored over a longer one
 --   tabulate_ext           equal entries, equal lists
 use Prim.Native.Nat.{ℕ, zero, suc, ◌+◌, ◌-◌, ◌<◌, ◌≤◌}
-use native.Mathlib.Decide.{ℕ_discrete, dec_lt}
 use native.Mathlib.Omega.{arith}
 use mathlib.Core.List.{List, ◌∷◌, ◌++◌}
 use mathlib.Core.Path.{◌≡◌, refl, sym, ap, ap₂, ◌∙◌}
-use lib.ListN.{length, get_or, drop, set, length-append, length-drop, length-set, get_or-append}
-use lib.Seq.{get_or-set_same, get_or-set_other, get_or-append-add, get_or-drop, ext_get_or}
+use lib.ListN.{length, get_or, drop, set, length-set, get_or-append}
+use Rattle.std.proofs.lemmas.Grind.{common_steps}
+use lib.Seq.{get_or-append-add, get_or-drop, ext_get_or}
 use Rattle.scope.specs.Point.{tabulate}
 use Rattle.scope.specs.Degree.{tabulate-length, tabulate-get_or}
 
@@ -35,13 +35,17 @@ front_old f n l i h =
     ∙ ap (λ (j : ℕ). get_or l j 0) back
 
 pub front_length : (f : ℕ → ℕ) (n : ℕ) (l : List ℕ) → n ≤ length l → length (tabulate n f ++ drop n l) ≡ length l
-front_length f n l h = rw (length-append (tabulate n f) (drop n l), tabulate-length n f, length-drop n l) (omega arith)
+front_length f n l h = grind (arith, common_steps, tabulate-length n f)
 
 pub tabulate_ext : (n : ℕ) (f g : ℕ → ℕ) → ((k : ℕ) → k < n → f k ≡ g k) → tabulate n f ≡ tabulate n g
 unfolding tabulate
 tabulate_ext zero f g h = refl
 tabulate_ext (suc n) f g h =
     ap₂ (λ (a : ℕ) (r : List ℕ). a ∷ r) (h zero (omega arith)) (tabulate_ext n (λ i. f (suc i)) (λ i. g (suc i)) (λ i b. h (suc i) (omega arith)))
+
+-- a list with these entries
+pub list_of : (f : ℕ → ℕ) (l : List ℕ) {n : ℕ} → length l ≡ n → ((i : ℕ) → i < n → get_or l i 0 ≡ f i) → l ≡ tabulate n f
+list_of f l {n} long same = ext_get_or 0 l (tabulate n f) (long ∙ sym (tabulate-length n f)) (λ i b. same i (omega arith) ∙ sym (tabulate-get_or n f i (omega arith)))
 
 pub record Stored (f : ℕ → ℕ) (lo hi : ℕ) (l k : List ℕ) : Type 0 where
   pub long : length k ≡ length l
@@ -59,21 +63,14 @@ module _ (f : ℕ → ℕ) where
   stored_none j l =
       record { long = refl; new = λ i a b. absurd (omega arith); below = λ i b. refl; above = λ i a. refl }
 
-  -- the entry stored, and the others
-  at_new : (k : List ℕ) (j : ℕ) (v : ℕ) → j < length k → v ≡ f j → (i : ℕ) → i ≡ j → get_or (set k j v) i 0 ≡ f i
-  at_new k j v b e i q = ap (λ (n : ℕ). get_or (set k j v) n 0) q ∙ get_or-set_same k j v 0 b ∙ e ∙ ap f (sym q)
-
   pub stored_up : {lo hi : ℕ} {l k : List ℕ} {v : ℕ} → Stored f lo hi l k → lo ≤ hi → hi < length l → v ≡ f hi
       → Stored f lo (hi + 1) l (set k hi v)
   stored_up {lo} {hi} {l} {k} {v} h order room e =
       record {
         long = length-set k hi v ∙ h.long;
-        new = λ i a b. elim (ℕ_discrete i hi) [
-          | yes q ↦ at_new k hi v (omega (arith, h.long)) e i q
-          | no q ↦ get_or-set_other k hi i v 0 q ∙ h.new i a (omega arith)
-        ];
-        below = λ i b. get_or-set_other k hi i v 0 (omega arith) ∙ h.below i b;
-        above = λ i a. get_or-set_other k hi i v 0 (omega arith) ∙ h.above i (omega arith);
+        new = λ i a b. grind (arith, common_steps, h.new i, h.long);
+        below = λ i b. grind (arith, common_steps, h.below i b);
+        above = λ i a. grind (arith, common_steps, h.above i);
       }
 
   pub stored_down : {lo hi : ℕ} {l k : List ℕ} {v : ℕ} (j : ℕ) → Stored f lo hi l k → lo ≡ suc j → lo ≤ hi → hi ≤ length l → v ≡ f j
@@ -81,40 +78,11 @@ module _ (f : ℕ → ℕ) where
   stored_down {lo} {hi} {l} {k} {v} j h at order room e =
       record {
         long = length-set k j v ∙ h.long;
-        new = λ i a b. elim (ℕ_discrete i j) [
-          | yes q ↦ at_new k j v (omega (arith, h.long)) e i q
-          | no q ↦ get_or-set_other k j i v 0 q ∙ h.new i (omega arith) b
-        ];
-        below = λ i b. get_or-set_other k j i v 0 (omega arith) ∙ h.below i (omega arith);
-        above = λ i a. get_or-set_other k j i v 0 (omega arith) ∙ h.above i a;
+        new = λ i a b. grind (arith, common_steps, h.new i, h.long);
+        below = λ i b. grind (arith, common_steps, h.below i);
+        above = λ i a. grind (arith, common_steps, h.above i);
       }
 
-  pub stored_list : (n : ℕ) {hi : ℕ} {l k : List ℕ} → Stored f 0 hi l k → hi ≡ n → n ≤ length l → k ≡ tabulate n f ++ drop n l
-  stored_list n {hi} {l} {k} h e room =
-      ext_get_or 0 k (tabulate n f ++ drop n l) (h.long ∙ sym (front_length f n l room)) same
-    where
-      same : (i : ℕ) → i < length k → get_or k i 0 ≡ get_or (tabulate n f ++ drop n l) i 0
-      same i b = elim (dec_lt i n) [
-        | yes a ↦ h.new i (omega arith) (omega arith) ∙ sym (front_new f n l i a)
-        | no a ↦ h.above i (omega arith) ∙ sym (front_old f n l i (omega arith))
-      ]
-
-pub front_more : (f g h : ℕ → ℕ) (n m : ℕ) (l : List ℕ) → n ≤ m → m ≤ length l
-    → ((k : ℕ) → k < n → f k ≡ h k) → ((k : ℕ) → n ≤ k → k < m → g k ≡ h k)
-    → tabulate n f ++ drop n (tabulate m g ++ drop m l) ≡ tabulate m h ++ drop m l
-front_more f g h n m l order room low high =
-    stored_list h m
-    record {
-      long = front_length f n r (omega (arith, front_length g m l room)) ∙ front_length g m l room;
-      new = λ i _ b. elim (dec_lt i n) [
-        | yes a ↦ front_new f n r i a ∙ low i a
-        | no a ↦ front_old f n r i (omega arith) ∙ front_new g m l i b ∙ high i (omega arith) b
-      ];
-      below = λ i b. absurd (omega arith);
-      above = λ i a. front_old f n r i (omega arith) ∙ front_old g m l i a;
-    }
-    refl
-    room
-  where
-    r : List ℕ
-    r = tabulate m g ++ drop m l
+  -- every entry, so the list itself
+  pub stored_all : {hi : ℕ} {l k : List ℕ} → Stored f 0 hi l k → hi ≡ length l → k ≡ tabulate (length l) f
+  stored_all {hi} {l} {k} h e = list_of f k h.long (λ i b. h.new i (omega arith) (omega arith))

@@ -1,106 +1,27 @@
-// Arithmetic on lent slices: values of polynomials, rows of a table at a point, usable points, and Newton's rule.
-// A table here has 289 entries, 17 places to a power of x: the coefficient of x^i y^j stands at 17 i + j.
+// Arithmetic on lent slices: values of polynomials, a pair of tables at a point, and Newton's rule.
 #![tactic(auto)]
 
-ghost use Rattle.std.specs.Prelude.{◌≡◌, cond, not, ◌++◌, ℕ, suc, ◌+◌, ◌*◌, ◌-◌, ◌%◌, ◌<◌, ◌≤◌, leb, eqb, length, get_or, drop};
-ghost use Rattle.residue.specs.Prime.{Prime};
+ghost use Rattle.std.specs.Prelude.{◌≡◌, ℕ, cond, not, ◌++◌, suc, ◌+◌, ◌*◌, ◌-◌, ◌<◌, ◌≤◌, eqb, length, get_or, replicate, Option, Some, None, IfSome};
 ghost use Rattle.residue.specs.Residue.{residues, res, val};
 ghost use Rattle.residue.specs.Inverse.{inv};
-ghost use Rattle.polynomial.specs.Value.{value};
 ghost use Rattle.polynomial.specs.Interpolation.{newton};
 ghost use Rattle.scope.specs.Pair.{term, tables, some, occurs, largest};
-ghost use Rattle.scope.specs.Point.{tabulate, row_at, usable, usables};
+ghost use Rattle.scope.specs.Point.{tabulate, row_at, usable};
 ghost use Rattle.scope.specs.Recovery.{Different};
-ghost use Rattle.points.specs.Table.{Table};
+ghost use Rattle.points.specs.Table.{IsTable, IsTable-prop};
 ghost use Rattle.points.specs.Step.{value_of, weight_of, plus_multiple, times_linear};
 
-// a * b + c modulo p, with one remainder
-fn mul_add(p: u32, a: u32, b: u32, c: u32) -> u32
+use field::Modulus;
+
+// The value at a of the polynomial with these coefficients, lowest first: Horner's rule
+pub fn value_at(p: u32, coefficients: &[u32], a: u32) -> u32
     requires { 0 < p }
-    ensures { result ≡ (a * b + c) % p }
+    ensures { result ≡ value_of p (length coefficients.now) coefficients.now a }
 {
-    (((a as u64) * (b as u64) + (c as u64)) % (p as u64)) as u32
-}
-
-// The value at a of the polynomial whose d + 1 coefficients, lowest first, stand from `from` on: Horner's rule
-pub fn value_at(p: u32, t: &[u32], from: usize, d: usize, a: u32) -> u32
-    requires p_nonzero { 0 < p }
-    requires d_in_bounds { from + d < length t.now }
-    ensures { result ≡ val p (value (residues p) (suc d) (λ j. res p (get_or t.now (from + j) 0)) (res p a)) }
-{
-    let mut r: u32 = 0;
-    let mut k = d + 1;
-    while k > 0 {
-        k -= 1;
-        r = mul_add(p, r, a, t[from + k]);
-    }
-    r
-}
-
-// The rows 0 to m of a table at y = a, into the first m + 1 places of out
-pub fn row_at(p: u32, t: &[u32], m: usize, d: usize, a: u32, out: &mut [u32])
-    requires p_nonzero { 0 < p }
-    requires table { Table m d t.now }
-    requires m_in_bounds { m + 1 ≤ length out.old }
-    ensures { out.new ≡ row_at p m 16 (term 16 t.now) a ++ drop (m + 1) out.old }
-{
-    let mut i = 0;
-    while i <= m {
-        out[i] = value_at(p, t, i * 17, d, a);
-        i += 1;
-    }
-}
-
-// Whether the leading rows of both tables are nonzero at a
-pub fn usable_at(
-    p: u32,
-    ta: &[u32],
-    m: usize,
-    da: usize,
-    tb: &[u32],
-    n: usize,
-    db: usize,
-    a: u32,
-) -> bool
-    requires p_nonzero { 0 < p }
-    requires table { Table m da ta.now }
-    requires table_2 { Table n db tb.now }
-    ensures { result ≡ usable (tables p m 16 n 16 ta.now tb.now) a }
-{
-    if value_at(p, ta, m * 17, da, a) == 0 {
-        return false;
-    }
-    value_at(p, tb, n * 17, db, a) != 0
-}
-
-// Whether at least `wanted` points below p are usable; it stops as soon as so many are found
-pub fn enough_usable(
-    p: u32,
-    ta: &[u32],
-    m: usize,
-    da: usize,
-    tb: &[u32],
-    n: usize,
-    db: usize,
-    wanted: usize,
-) -> bool
-    requires p_nonzero { 0 < p }
-    requires table { Table m da ta.now }
-    requires table_2 { Table n db tb.now }
-    ensures { result ≡ leb wanted (length (usables (tables p m 16 n 16 ta.now tb.now) p)) }
-{
-    let mut found: usize = 0;
-    let mut a: u32 = 0;
-    while found < wanted {
-        if a >= p {
-            return false;
-        }
-        if usable_at(p, ta, m, da, tb, n, db, a) {
-            found += 1;
-        }
-        a += 1;
-    }
-    true
+    coefficients
+        .iter()
+        .rev()
+        .fold(0, |r, c| field::mul_add(p, r, a, *c))
 }
 
 // Whether y^j stands in some row up to m
@@ -110,12 +31,10 @@ fn power_occurs(t: &[u32], m: usize, j: usize) -> bool
     requires j_bound { j ≤ 16 }
     ensures { result ≡ occurs m (term 16 t.now) j }
 {
-    let mut i = 0;
-    while i <= m {
+    for i in 0..m + 1 {
         if t[i * 17 + j] != 0 {
             return true;
         }
-        i += 1;
     }
     false
 }
@@ -126,160 +45,188 @@ pub fn true_degree(t: &[u32], m: usize) -> usize
     requires m_bound { m ≤ 16 }
     ensures { result ≡ largest 16 (occurs m (term 16 t.now)) }
 {
-    let mut j: usize = 16;
-    while j > 0 {
+    for j in (1..17).rev() {
         if power_occurs(t, m, j) {
             return j;
         }
-        j -= 1;
     }
     0
 }
 
-// How many points a pair of these degrees needs: D + 1
-pub fn needed(m: usize, da: usize, n: usize, db: usize) -> usize
-    requires m_bound { m ≤ 16 }
-    requires da_bound { da ≤ 16 }
-    requires n_bound { n ≤ 16 }
-    requires db_bound { db ≤ 16 }
-    ensures { result ≡ n * da + m * db + 1 }
-{
-    n * da + m * db + 1
+// A table of one polynomial, 17 places to a power of x: the coefficient of x^i y^j stands at 17 i + j. Its degree in x
+// is m, and no power of y above d occurs.
+#[derive(Clone, Copy)]
+pub struct Table<'a> {
+    pub entries: &'a [u32],
+    pub m: usize,
+    pub d: usize,
+    pub ghost fits: { IsTable m d entries.now } by { IsTable-prop m d entries.now },
 }
 
-// Zeros in the first count places
-fn clear(out: &mut [u32], count: usize)
-    requires { count ≤ length out.old }
-    ensures { out.new ≡ tabulate count (λ _. 0) ++ drop count out.old }
-{
-    let mut k = 0;
-    while k < count {
-        out[k] = 0;
-        k += 1;
+impl Table<'_> {
+    // The value at y = a of row i, a polynomial in y
+    fn row_value(self, p: u32, i: usize, a: u32) -> u32
+        requires p_nonzero { 0 < p }
+        requires row { i ≤ self.m }
+        ensures { result ≡ Rattle.scope.specs.Point.value_at p 16 (term 16 self.entry.entries.now) i a }
+    {
+        value_at(p, &self.entries[i * 17..=i * 17 + self.d], a)
+    }
+
+    // The rows at y = a, lowest power of x first
+    fn row_at(self, p: u32, a: u32, out: &mut [u32])
+        requires p_nonzero { 0 < p }
+        requires room { length out.old ≡ self.m + 1 }
+        ensures { out.new ≡ row_at p self.entry.m 16 (term 16 self.entry.entries.now) a }
+    {
+        for i in 0..out.len() {
+            out[i] = self.row_value(p, i, a);
+        }
     }
 }
 
-// out + c * t modulo p, in the first count places
-fn add_multiple(p: u32, c: u32, t: &[u32], count: usize, out: &mut [u32])
-    requires p_nonzero { 0 < p }
-    requires count_in_bounds { count ≤ length t.now }
-    requires count_in_bounds_2 { count ≤ length out.old }
-    ensures { out.new ≡ tabulate count (plus_multiple p c t.now out.old) ++ drop count out.old }
+// Whether the leading rows of both tables are nonzero at y. It and what it calls ask of p only that it is not 0, as
+// docs/PROMISES.md names it; so they take the number and not a prime modulus.
+#[tactic(auto, unfolding(scope::specs::Point::usable, scope::specs::Pair::tables))]
+pub fn usable_at(p: u32, a: Table, b: Table, y: u32) -> bool
+    requires { 0 < p }
+    ensures { result ≡ usable (tables p a.entry.m 16 b.entry.m 16 a.entry.entries.now b.entry.entries.now) y }
 {
-    let mut k = 0;
-    while k < count {
-        out[k] = mul_add(p, c, t[k], out[k]);
-        k += 1;
+    a.row_value(p, a.m, y) != 0 && b.row_value(p, b.m, y) != 0
+}
+
+// Two polynomials modulo a prime
+#[derive(Clone, Copy)]
+pub struct Pair<'a> {
+    pub p: Modulus,
+    pub a: Table<'a>,
+    pub b: Table<'a>,
+}
+
+impl Pair<'_> {
+    ghost use Rattle.std.specs.Prelude.{leb};
+    ghost use Rattle.scope.specs.Point.{usables, kept};
+    ghost use Rattle.points.specs.Lent.{pair_at};
+
+    // How many points are needed: D + 1
+    pub fn needed(self) -> usize
+        ensures { result ≡ self.entry.b.m * self.entry.a.d + self.entry.a.m * self.entry.b.d + 1 }
+    {
+        self.b.m * self.a.d + self.a.m * self.b.d + 1
+    }
+
+    // Whether both leading rows are nonzero at y
+    pub fn usable(self, y: u32) -> bool
+        ensures { result ≡ usable (pair_at self.entry) y }
+    {
+        usable_at(self.p.value, self.a, self.b, y)
+    }
+
+    // The value kept at y: the determinant of the two polynomials there, at their declared degrees
+    pub fn kept(self, y: u32) -> u32
+        ensures { result ≡ kept (pair_at self.entry) y }
+    {
+        let mut u = [0u32; 17];
+        let mut w = [0u32; 17];
+        let u = &mut u[..self.a.m + 1];
+        let w = &mut w[..self.b.m + 1];
+        self.a.row_at(self.p.value, y, u);
+        self.b.row_at(self.p.value, y, w);
+        rows::determinant_in(self.p, u, w)
+    }
+
+    // Whether at least `wanted` points below p are usable; it stops as soon as so many are found
+    #[tactic(auto, using(crate::proofs::Counting::counting))]
+    pub fn has_usable(self, wanted: usize) -> bool
+        ensures { result ≡ leb wanted (length (usables (pair_at self.entry) self.entry.p.value)) }
+    {
+        let mut found: usize = 0;
+        for y in 0..self.p.value {
+            if found == wanted {
+                return true;
+            }
+            if self.usable(y) {
+                found += 1;
+            }
+        }
+        wanted <= found
     }
 }
 
-// The constant 1, as a product of no factors
-fn unit() -> [u32; 514]
-    ensures { result ≡ tabulate 514 (λ k. cond (eqb k 0) 1 0) }
+// out + c * t modulo p, entry by entry of out
+fn add_multiple(p: Modulus, c: u32, t: &[u32], out: &mut [u32])
+    requires as_long { length out.old ≤ length t.now }
+    ensures { out.new ≡ tabulate (length out.old) (plus_multiple p.value c t.now out.old) }
 {
-    let mut t = [0u32; 514];
-    t[0] = 1;
-    t
+    // a `zip` with `iter_mut` was tried: the proof keeps nothing of `out` across its turns
+    for k in 0..out.len() {
+        out[k] = field::mul_add(p.value, c, t[k], out[k]);
+    }
 }
 
-// t * (y - x) modulo p, in the first count places, from the top down
-fn times_linear(p: u32, x: u32, count: usize, t: &mut [u32])
-    requires x_lt_p { x < p }
-    requires count_nonzero { 0 < count }
-    requires count_in_bounds { count ≤ length t.old }
-    requires by_index { (k : ℕ) → k < count → get_or t.old k 0 < p }
-    ensures { t.new ≡ tabulate count (times_linear p x t.old) ++ drop count t.old }
+// t * (y - x) modulo p, from the top down
+fn times_linear(p: Modulus, x: u32, t: &mut [u32])
+    requires x_below { x < p.value }
+    requires some { 0 < length t.old }
+    requires t_below { (k : ℕ) → k < length t.old → get_or t.old k 0 < p.value }
+    ensures { t.new ≡ tabulate (length t.old) (times_linear p.value x t.old) }
 {
-    let mut k = count;
-    while k > 1 {
-        k -= 1;
-        t[k] = field::mul_sub(p, t[k - 1], x, t[k]);
+    for k in (1..t.len()).rev() {
+        t[k] = field::mul_sub(p.value, t[k - 1], x, t[k]);
     }
-    t[0] = field::mul_sub(p, 0, x, t[0]);
+    t[0] = field::mul_sub(p.value, 0, x, t[0]);
 }
 
 // What out misses of v at x, over the value of t there: the multiple of t that Newton's next step adds to out
-fn weight(p: u32, x: u32, v: u32, d: usize, out: &[u32], t: &[u32]) -> u32
-    requires prime { Prime p }
-    requires v_lt_p { v < p }
-    requires d_in_bounds { d < length out.now }
-    requires d_in_bounds_2 { d < length t.now }
-    requires x_nonzero { 0 < value_of p (suc d) t.now x }
-    ensures { result ≡ weight_of p d v out.now t.now x }
+fn weight(p: Modulus, x: u32, v: u32, out: &[u32], t: &[u32]) -> u32
+    requires v_below { v < p.value }
+    requires as_long { length out.now ≤ length t.now }
+    requires t_nonzero { 0 < value_of p.value (length out.now) t.now x }
+    ensures { result ≡ weight_of p.value (length out.now) v out.now t.now x }
 {
-    let u = value_at(p, out, 0, d, x);
-    let z = value_at(p, t, 0, d, x);
-    let missing = field::sub(p, v, u);
-    let over = field::inverse(p, z);
-    field::mul(p, missing, over)
+    let u = value_at(p.value, out, x);
+    let z = value_at(p.value, &t[..out.len()], x);
+    let missing = field::sub(p.value, v, u);
+    field::mul(p.value, missing, p.inverse(z))
 }
 
-// One point more: out, of degree below d, takes v at x too and keeps its values where t, of degree d, is 0; and t takes
-// in the factor y - x
-fn next_point(p: u32, x: u32, v: u32, d: usize, t: &mut [u32], out: &mut [u32])
-    requires prime { Prime p }
-    requires x_lt_p { x < p }
-    requires v_lt_p { v < p }
-    requires d_in_bounds { d < length out.old }
-    requires d_in_bounds_2 { d + 2 ≤ length t.old }
-    requires by_index { (k : ℕ) → k < d + 2 → get_or t.old k 0 < p }
-    requires x_nonzero { 0 < value_of p (suc d) t.old x }
-    ensures out_after { out.new ≡ tabulate (d + 1) (plus_multiple p (weight_of p d v out.old t.old x) t.old out.old) ++ drop (d + 1) out.old }
-    ensures t_after { t.new ≡ tabulate (d + 2) (times_linear p x t.old) ++ drop (d + 2) t.old }
+// One point more: out, where its last coefficient is 0, takes v at x too and keeps its values where t, of as many
+// coefficients and one, is 0; and t takes in the factor y - x
+fn next_point(p: Modulus, x: u32, v: u32, t: &mut [u32], out: &mut [u32])
+    requires x_below { x < p.value }
+    requires v_below { v < p.value }
+    requires as_long { length t.old ≡ length out.old + 1 }
+    requires t_below { (k : ℕ) → k < length t.old → get_or t.old k 0 < p.value }
+    requires t_nonzero { 0 < value_of p.value (length out.old) t.old x }
+    ensures out_after { out.new ≡ tabulate (length out.old) (plus_multiple p.value (weight_of p.value (length out.old) v out.old t.old x) t.old out.old) }
+    ensures t_after { t.new ≡ tabulate (length t.old) (times_linear p.value x t.old) }
 {
-    let c = weight(p, x, v, d, out, t);
-    add_multiple(p, c, t, d + 1, out);
-    times_linear(p, x, d + 2, t);
+    let c = weight(p, x, v, out, t);
+    add_multiple(p, c, t, out);
+    times_linear(p, x, t);
 }
 
-// The coefficients of the polynomial that takes vs[i] at xs[i] for i < count, into the first count places of out:
-// Newton's rule, one point more each turn
-pub fn interpolate(p: u32, count: usize, xs: &[u32], vs: &[u32], out: &mut [u32])
-    requires le_p { 2 ≤ p }
-    requires prime { Prime p }
-    requires count_bound { count ≤ 513 }
-    requires count_in_bounds { count ≤ length xs.now }
-    requires count_in_bounds_2 { count ≤ length vs.now }
-    requires count_in_bounds_3 { count ≤ length out.old }
-    requires different { Different p count (λ i. get_or xs.now i 0) }
-    requires by_index { (i : ℕ) → i < count → get_or vs.now i 0 < p }
-    ensures { out.new ≡ tabulate count (λ k. val p (newton (residues p) (inv p) (λ i. res p (get_or xs.now i 0)) (λ i. res p (get_or vs.now i 0)) count k)) ++ drop count out.old }
+// The coefficients of the polynomial that takes vs[i] at xs[i]: Newton's rule, one point more each turn
+pub fn interpolate(p: Modulus, xs: &[u32], vs: &[u32], out: &mut [u32])
+    requires few { length out.old ≤ 513 }
+    requires points { length xs.now ≡ length out.old }
+    requires values { length vs.now ≡ length out.old }
+    requires different { Different p.value (length out.old) (λ i. get_or xs.now i 0) }
+    requires values_below { (i : ℕ) → i < length out.old → get_or vs.now i 0 < p.value }
+    ensures { out.new ≡ tabulate (length out.old) (λ k. val p.value (newton (residues p.value) (inv p.value) (λ i. res p.value (get_or xs.now i 0)) (λ i. res p.value (get_or vs.now i 0)) (length out.old) k)) }
 {
-    clear(out, count);
-    let mut product = unit();
-    let mut n = 0;
-    while n < count {
-        next_point(p, xs[n], vs[n], n, &mut product, out);
-        n += 1;
+    out.fill(0);
+    let mut product = [0u32; 514];
+    product[0] = 1;
+    for n in 0..out.len() {
+        next_point(p, xs[n], vs[n], &mut product[..n + 2], &mut out[..n + 1]);
     }
 }
 
-// The largest k below count with out[k] nonzero; 0 where there is none
-pub fn degree_of(out: &[u32], count: usize) -> usize
-    requires { count ≤ length out.now }
-    ensures { result ≡ largest (count - 1) (λ k. not (eqb (get_or out.now k 0) 0)) }
+// The degree of the polynomial with these coefficients, lowest first; None where it is zero
+pub fn degree(coefficients: &[u32]) -> Option<usize>
+    ensures bound { IfSome result (λ k. k < length coefficients.now) }
+    ensures value { result ≡ cond (some (length coefficients.now) (λ k. not (eqb (get_or coefficients.now k 0) 0))) (Some (largest (length coefficients.now - 1) (λ k. not (eqb (get_or coefficients.now k 0) 0)))) None }
 {
-    let mut k = count;
-    while k > 1 {
-        k -= 1;
-        if out[k] != 0 {
-            return k;
-        }
-    }
-    0
-}
-
-// Whether the first count places are all 0
-pub fn all_zero(out: &[u32], count: usize) -> bool
-    requires { count ≤ length out.now }
-    ensures { result ≡ not (some count (λ k. not (eqb (get_or out.now k 0) 0))) }
-{
-    let mut k = 0;
-    while k < count {
-        if out[k] != 0 {
-            return false;
-        }
-        k += 1;
-    }
-    true
+    coefficients.iter().rposition(|c| *c != 0)
 }

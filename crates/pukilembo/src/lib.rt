@@ -10,7 +10,7 @@ ghost use Rattle.kernel.specs.Results.{RowResult, PlainResult, DivisionResult, O
 use job::{Job, JobAnswer, ReadAnswer};
 use kernel::{DivisionAnswer, PlainAnswer, RowAnswer};
 
-// Which row divides, where a slice cannot be handed back: its side, 0 or 1, and its length.
+// Which row divides, where a slice cannot be handed back to C: its side, 0 or 1, and its length.
 #[repr(C)]
 #[derive(Clone, Copy)]
 pub struct Stretch {

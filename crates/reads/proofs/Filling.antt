@@ -7,7 +7,9 @@
 --   filling_first       before the first turn
 --   filling_standing    the job is sound all along
 --   filling-count       and keeps exactly those points
+--   filling_few         which are not more than those needed
 --   filling-below       while points are wanted a is a point
+--   filling_full        so where no point is left none is wanted
 --   filling-next        one turn
 --   filling-last        the job is complete: it was offered the smallest points that suffice
 use Prim.Native.Nat.{ℕ, suc, ◌+◌, ◌<◌, ◌≤◌, min}
@@ -82,7 +84,10 @@ module _ (j : Job) (s : Standing j) (fresh : j.count ≡ 0) where
     unfolding upto pair_of
     filling-count = ap (λ (z : Job). z.count) h.same ∙ upto-count a h.within ∙ omega (arith, h.few)
 
-    pub filling-below : k.count < needed (pair_of j) → a < j.p
+    pub filling_few : k.count ≤ needed (pair_of j)
+    filling_few = omega (arith, filling-count, h.few)
+
+    filling-below : k.count < needed (pair_of j) → a < j.p
     unfolding enough pair_of
     filling-below wanted = elim (dec_le j.p a) [ yes l ↦ absurd (full (omega (arith, h.within))) | no l ↦ omega arith ]
       where
@@ -94,6 +99,9 @@ module _ (j : Job) (s : Standing j) (fresh : j.count ≡ 0) where
               ap (λ (b : ℕ). length (usables (pair_of j) b)) e,
               leb-true (needed (pair_of j)) (length (usables (pair_of j) j.p)) s.plenty,
             )
+
+    pub filling_full : j.p ≤ a → needed (pair_of j) ≤ k.count
+    filling_full all = elim (dec_le (needed (pair_of j)) k.count) [ yes l ↦ l | no l ↦ absurd (omega (arith, filling-below (omega arith))) ]
 
     pub filling-next : k.count < needed (pair_of j) → (l : Job) → l ≡ offered k a → Filling j (a + 1) l
     filling-next wanted l e =

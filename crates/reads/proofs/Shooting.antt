@@ -10,7 +10,11 @@
 --   shot_read                  the read of the filled job
 use Prim.Native.Nat.{ℕ, zero, suc, ◌<◌, ◌≤◌}
 use native.Mathlib.Omega.{arith}
-use mathlib.Core.Bool.{cond}
+use mathlib.Core.Bool.{Bool, true, false, cond}
+use Rattle.std.proofs.Common.{Err}
+use Rattle.checks.specs.declared.Refusal.{Refusal}
+use Rattle.checks.specs.declared.Refusal.TheVariants.{Wanted}
+use Rattle.checks.specs.Outcome.{number_of, number_of_bounds}
 use mathlib.Core.List.{List, [], ◌∷◌, append-nil}
 use mathlib.Core.Path.{◌≡◌, refl, sym, ap, ◌∙◌, subst}
 use lib.Dec.{eqb}
@@ -33,6 +37,7 @@ use Rattle.job.specs.StandingLaws.{lotted_standing}
 use Rattle.job.specs.SoundLaws.{standing_test}
 use Rattle.job.specs.DemandLaws.{run-lotted}
 use Rattle.job.specs.OneShot.{smallest-length, one_shot_calls}
+use Rattle.reads.specs.Answered.{answered}
 use Rattle.reads.specs.Read.{ReadSound}
 use Rattle.reads.specs.Shot.{Shot}
 
@@ -41,15 +46,26 @@ unfolding ◌then◌
 then_refused zero x h = absurd (h refl)
 then_refused (suc r) x h = refl
 
+gives_low : (t : Bool) (r s : ℕ) → r ≤ 8 → s ≤ 8 → (t gives r otherwise s) ≤ 8
+unfolding ◌gives◌otherwise◌
+gives_low true r s hr hs = hr
+gives_low false r s hr hs = hs
+
+opening_low : (p m e n f : ℕ) (s t : List ℕ) → strict_number p m e n f s t ≤ 8
+unfolding strict_number open_number
+opening_low p m e n f s t =
+    gives_low _ 2 _ (omega arith) (gives_low _ 3 _ (omega arith) (gives_low _ 4 _ (omega arith)
+    (gives_low _ 5 _ (omega arith) (gives_low _ 6 _ (omega arith) (gives_low _ 7 _ (omega arith) (gives_low _ 8 0 (omega arith) (omega arith)))))))
+
 pub record OpenedAs (p m e n f : ℕ) (s t : List ℕ) (j : Job) : Type 0 where
   pub accepts : open_number p m e n f s t ≡ 0
   pub is : j ≡ opened p m e n f s t
 
 module _ (p m e n f : ℕ) (s t : List ℕ) where
-  pub opened_as : (number : ℕ) (j : Job) → number ≡ strict_number p m e n f s t → j ≡ strict_job p m e n f s t → number ≡ 0 → OpenedAs p m e n f s t j
+  pub opened_as : {j : Job} → 0 ≡ strict_number p m e n f s t → j ≡ strict_job p m e n f s t → OpenedAs p m e n f s t j
   unfolding strict_number strict_job
-  opened_as number j numbered handed none =
-      record { accepts = sym numbered ∙ none; is = handed ∙ ap (λ (x : ℕ). cond (eqb x 0) (opened p m e n f s t) blank) (sym numbered ∙ none) }
+  opened_as numbered handed =
+      record { accepts = sym numbered; is = handed ∙ ap (λ (x : ℕ). cond (eqb x 0) (opened p m e n f s t) blank) (sym numbered) }
 
   module _ (j : Job) (o : OpenedAs p m e n f s t j) where
     start : Standing (opened p m e n f s t)
@@ -103,8 +119,13 @@ module _ (p m e n f : ℕ) (s t : List ℕ) where
           output = rw (answer, ne_eqb r 0 h) refl;
         }
 
-    pub shot_refused : (r : ℕ) → r ≡ strict_number p m e n f s t → (r ≡ 0 → ⊥) → Shot p m e n f s t out (record { number = r; wanted = 0; degree = 0; zero = 0 }) out
-    shot_refused r q h = refusal r (unfold shot_answer one_shot_number strict_number in rw (← q) (then_refused r _ h)) h
+    refused : (r : ℕ) → r ≡ strict_number p m e n f s t → (r ≡ 0 → ⊥) → Shot p m e n f s t out (record { number = r; wanted = 0; degree = 0; zero = 0 }) out
+    refused r q h = refusal r (unfold shot_answer one_shot_number strict_number in rw (← q) (then_refused r _ h)) h
+
+    -- no opening says how many points are wanted
+    pub shot_refused : (r : Refusal) → number_of r ≡ strict_number p m e n f s t → Shot p m e n f s t out (answered (Err r)) out
+    shot_refused (Wanted w) q = absurd (omega (arith, opening_low p m e n f s t))
+    shot_refused r q = refused (number_of r) q (λ z. omega (arith, (number_of_bounds r).0))
 
     -- the code's number of points needed is d
     module _ (j : Job) (o : OpenedAs p m e n f s t j) (d : ℕ) (at : d ≡ needed (pair_of j)) where

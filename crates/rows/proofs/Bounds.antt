@@ -5,12 +5,11 @@
 --   count_code        the steps of a division, as the code counts them
 --   count_none        a row no longer than the divisor's degree takes none
 --   count_constant    nor does a division by a constant
---   count_most        rows of at most 17 entries take at most 289
 --   below-append      two such rows, one after the other
 --   below-take        the first places of one
 --   below-drop        its other places
 use Prim.Native.Nat.{ℕ, zero, suc, ◌+◌, ◌-◌, ◌*◌, ◌<◌, ◌≤◌}
-use native.Mathlib.Nat.{mul-le-mul, pos_of_ne-zero, zero-mul, mul-zero}
+use native.Mathlib.Nat.{pos_of_ne-zero, zero-mul, mul-zero}
 use native.Mathlib.Omega.{arith}
 use mathlib.Core.List.{List, [], ◌∷◌, ◌++◌}
 use mathlib.Core.Path.{◌≡◌, refl, sym, ap, ◌∙◌}
@@ -39,9 +38,6 @@ count_none l d h = let e : 0 ≡ l - d = omega arith in sym (zero-mul d) ∙ ap 
 pub count_constant : (l : ℕ) {d : ℕ} → d ≡ 0 → 0 ≡ count l d
 unfolding count
 count_constant l {d} e = sym (ap (λ (n : ℕ). (l - d) * n) e ∙ mul-zero (l - d))
-
-pub count_most : {l d : ℕ} → l ≤ 17 → d ≤ 17 → (l - d) * d ≤ 289
-count_most {l} {d} hl hd = mul-le-mul {n₁ = l - d} {m₁ = d} {n₂ = 17} {m₂ = 17} (omega arith) hd
 
 module _ {p : ℕ} where
   pub below-append : (s t : List ℕ) → Below p s → Below p t → Below p (s ++ t)

@@ -2,9 +2,9 @@
 --
 --   order-length        of neighbours the second is no longer than the first
 --   monic_divides       the monic row is ended, of residues, and as long as the row
---   next_fits, next-front    the next row is the front of the work row
+--   next-length         the first places of the work row are trimmed to the length of the next row
+--   next_fits, next-front    which is the front of the work row
 --   next_more           it goes on with the sequence where it is not empty
---   rest_is             the work row's first places, trimmed, are the next row
 use Prim.Native.Nat.{ℕ, ◌-◌, ◌<◌, ◌≤◌}
 use native.Mathlib.Omega.{arith}
 use mathlib.Core.List.{List, [], ◌++◌}
@@ -12,15 +12,14 @@ use mathlib.Core.Logic.{◌⊎◌, inl, inr}
 use mathlib.Core.Path.{◌≡◌, sym, ap, subst, ◌∙◌}
 use lib.ListN.{length, take, length-append}
 use lib.Seq.{take_at, take-append-le}
-use Rattle.residue.specs.Prime.{Prime}
 use Rattle.euclid.specs.Row.{trim, declared}
-use Rattle.euclid.specs.RowLaws.{Below, Ended, trim-length, ended-trim}
+use Rattle.euclid.specs.RowLaws.{Below, Ended, trim-length}
 use Rattle.euclid.specs.Division.{remainder, quotient}
 use Rattle.euclid.specs.DivisionLaws.{remainder-length}
 use Rattle.euclid.specs.Sequence.{monic}
-use Rattle.euclid.specs.MonicLaws.{monic-length, monic-below, monic-ended}
+use Rattle.euclid.specs.MonicLaws.{monic-length, monic-declared, monic-below, monic-ended}
 use Rattle.euclid.specs.FollowingLaws.{Neighbours, next, next_neighbours}
-use Rattle.rows.specs.Which.{lower, lower_first}
+use Rattle.field.specs.declared.Modulus.{Modulus}
 use Rattle.rows.proofs.Bounds.{declared-minus}
 use Rattle.rows.proofs.Trim.{trim-front}
 
@@ -32,52 +31,45 @@ pub record Divisor (p : ℕ) (b d : List ℕ) : Type 0 where
   pub below : Below p d
   pub long : length d ≡ length b
 
-module _ (p : ℕ) (two : 2 ≤ p) (prime : Prime p) (a b : List ℕ) (n : Neighbours p a b) {d : List ℕ} (e : d ≡ monic p b) where
-  pub monic_divides : Divisor p b d
+module _ (p : Modulus) (a b : List ℕ) (n : Neighbours p.value a b) {d : List ℕ} (e : d ≡ monic p.value b) where
+  pub monic_divides : Divisor p.value b d
   monic_divides =
-      subst (λ (l : List ℕ). Divisor p b l) (sym e)
+      subst (λ (l : List ℕ). Divisor p.value b l) (sym e)
       (record {
-        ended = monic-ended p two prime b n.second_ended n.second_below;
-        below = monic-below p b (omega arith);
-        long = monic-length p b;
+        ended = monic-ended p.value p.least p.prime b n.second_ended n.second_below;
+        below = monic-below p.value b (omega (arith, p.least));
+        long = monic-length p.value b;
       })
 
-  pub rest_is : {row : List ℕ} → row ≡ remainder p a d ++ quotient p a d → lower (take (length b - 1) row) d ≡ next p a b
-  rest_is {row} is =
-      ap (λ (l : List ℕ). lower l d) front
-      ∙ lower_first r d (omega (arith, trim-length r, long, ap length (ended-trim d monic_divides.ended), monic_divides.long, monic_divides.ended.0, declared-minus d))
-      ∙ ap (λ (l : List ℕ). trim (remainder p a l)) e
-    where
-      r : List ℕ
-      r = remainder p a d
-
-      long : length r ≡ length b - 1
-      long =
-          remainder-length p a d
-          ∙ omega (arith, declared-minus d, monic_divides.long, order-length a b n, n.second_ended.0)
-
-      front : take (length b - 1) row ≡ r
-      front = ap (take (length b - 1)) is ∙ take_at r (quotient p a d) (length b - 1) long
-
-module _ (p : ℕ) (a b : List ℕ) {row : List ℕ} {k : ℕ} (is : row ≡ remainder p a (monic p b) ++ quotient p a (monic p b))
-    (long : k ≡ length (next p a b)) where
+module _ (p : ℕ) (a b : List ℕ) (n : Neighbours p a b) {row : List ℕ} (is : row ≡ remainder p a (monic p b) ++ quotient p a (monic p b)) where
   r : List ℕ
   r = remainder p a (monic p b)
 
-  pub next_fits : k ≤ length row
+  rest-length : length r ≡ length b - 1
   unfolding r
-  next_fits = omega (arith, trim-length r, ap length is, length-append r (quotient p a (monic p b)))
+  rest-length =
+      remainder-length p a (monic p b)
+      ∙ omega (arith, monic-declared p b, declared-minus b, order-length a b n)
 
-  pub next-front : take k row ≡ next p a b
-  unfolding r
-  next-front =
-      ap (take k) is ∙ take-append-le k r (quotient p a (monic p b)) (omega (arith, trim-length r)) ∙ trim-front r long
+  module _ {k : ℕ} (cut : k ≡ length (trim (take (length b - 1) row))) where
+    pub next-length : k ≡ length (next p a b)
+    unfolding r
+    next-length = cut ∙ ap (λ (l : List ℕ). length (trim l)) (ap (take (length b - 1)) is ∙ take_at r (quotient p a (monic p b)) (length b - 1) rest-length)
 
-pub next_more : (p : ℕ) → 2 ≤ p → Prime p → (a b : List ℕ) → Neighbours p a b → 0 < length (next p a b)
-    → Neighbours p (monic p b) (next p a b) × (length (next p a b) < length b)
-next_more p two prime a b n some = by_next (next_neighbours p two prime a b n)
+    pub next_fits : k ≤ length row
+    unfolding r
+    next_fits = omega (arith, next-length, trim-length r, ap length is, length-append r (quotient p a (monic p b)))
+
+    pub next-front : take k row ≡ next p a b
+    unfolding r
+    next-front =
+        ap (take k) is ∙ take-append-le k r (quotient p a (monic p b)) (omega (arith, next-length, trim-length r)) ∙ trim-front r next-length
+
+pub next_more : (p : Modulus) (a b : List ℕ) → Neighbours p.value a b → 0 < length (next p.value a b)
+    → Neighbours p.value (monic p.value b) (next p.value a b) × (length (next p.value a b) < length b)
+next_more p a b n some = by_next (next_neighbours p.value p.least p.prime a b n)
   where
-    by_next : (next p a b ≡ []) ⊎ (Neighbours p (monic p b) (next p a b) × (declared (next p a b) < declared b))
-        → Neighbours p (monic p b) (next p a b) × (length (next p a b) < length b)
+    by_next : (next p.value a b ≡ []) ⊎ (Neighbours p.value (monic p.value b) (next p.value a b) × (declared (next p.value a b) < declared b))
+        → Neighbours p.value (monic p.value b) (next p.value a b) × (length (next p.value a b) < length b)
     by_next (inl e) = absurd (omega (arith, ap length e))
-    by_next (inr h) = (h.0, omega (arith, h.1, declared-minus (next p a b), declared-minus b))
+    by_next (inr h) = (h.0, omega (arith, h.1, declared-minus (next p.value a b), declared-minus b))

@@ -1,63 +1,42 @@
--- The multiply-and-subtract, stopped after i places.
+-- The multiply-and-subtract, one place at a time.
 --
---   partly p q i s t            the row s less q times t in its first i places
---   Partly p q d s t part i     part is that row after i of d places
---   partly_first, partly_more, partly-last    before the first place; one place more; after the last
---   partly_read                 the next place holds what s has there
-use Prim.Native.Nat.{ℕ, zero, suc, ◌+◌, ◌-◌, ◌*◌, ◌%◌, ◌<◌, ◌≤◌}
-use native.Mathlib.Numerals.{add-one}
-use native.Mathlib.Omega.{arith}
-use mathlib.Core.List.{List, [], ◌∷◌, ◌++◌}
-use mathlib.Core.Path.{◌≡◌, refl, sym, ap, ◌∙◌}
-use lib.ListN.{length, get_or, set, take, drop, length-set, take-append-drop}
+--   less_none     nothing is taken away
+--   less-read     a place past those of t holds what s has there
+--   less-more     one place more
+--   less_cut      the places from d on stay, where t has no more than d
+use Rattle.std.proofs.Common.{ℕ, zero, suc, ◌+◌, ◌-◌, ◌*◌, ◌%◌, ◌<◌, ◌≤◌, List, [], ◌∷◌, ◌++◌, ◌≡◌, length, get_or, set, take, drop, refl, sym, ap, arith, add-one, take-append-drop}
 use Rattle.euclid.specs.Division.{less}
 
 module _ (p q : ℕ) where
-  abbrev pub partly : ℕ → List ℕ → List ℕ → List ℕ
-  partly i s t = less p q (take i s) (take i t) ++ drop i s
-
-  pub record Partly (d : ℕ) (s t part : List ℕ) (i : ℕ) : Type 0 where
-    pub within : i ≤ d
-    pub long : length part ≡ length s
-    pub is : part ≡ partly i s t
-
-  read : (i : ℕ) (s t : List ℕ) → get_or (partly i s t) i 0 ≡ get_or s i 0
+  pub less_none : (s : List ℕ) → s ≡ less p q s []
   unfolding less
-  read zero s t = refl
-  read (suc i) [] t = refl
-  read (suc i) (x ∷ s) [] = ap (λ (l : List ℕ). get_or l i 0) (take-append-drop i s)
-  read (suc i) (x ∷ s) (y ∷ t) = read i s t
+  less_none [] = refl
+  less_none (x ∷ s) = refl
 
-  turn : (i : ℕ) (s t : List ℕ) → i < length s → i < length t
-      → set (partly i s t) i ((get_or s i 0 + (p - q * get_or t i 0 % p)) % p) ≡ partly (suc i) s t
+  pub less-read : (i : ℕ) (s t : List ℕ) → get_or (less p q s (take i t)) i 0 ≡ get_or s i 0
   unfolding less
-  turn i [] t hs ht = absurd (omega arith)
-  turn i (x ∷ s) [] hs ht = absurd (omega arith)
-  turn zero (x ∷ s) (y ∷ t) hs ht = refl
-  turn (suc i) (x ∷ s) (y ∷ t) hs ht =
-      ap (λ (l : List ℕ). (x + (p - q * y % p)) % p ∷ l) (turn i s t (omega arith) (omega arith))
+  less-read zero s t = ap (λ (l : List ℕ). get_or l 0 0) (sym (less_none s))
+  less-read (suc i) [] t = refl
+  less-read (suc i) (x ∷ s) [] = refl
+  less-read (suc i) (x ∷ s) (y ∷ t) = less-read i s t
 
-  pub partly_first : {d : ℕ} {s t : List ℕ} → Partly d s t s 0
+  more : (i : ℕ) (s t : List ℕ) → i < length s → i < length t
+      → set (less p q s (take i t)) i ((get_or s i 0 + (p - q * get_or t i 0 % p)) % p) ≡ less p q s (take (suc i) t)
   unfolding less
-  partly_first = record { within = omega arith; long = refl; is = refl }
+  more i [] t hs ht = absurd (omega arith)
+  more i (x ∷ s) [] hs ht = absurd (omega arith)
+  more zero (x ∷ s) (y ∷ t) hs ht = ap (λ (l : List ℕ). (x + (p - q * y % p)) % p ∷ l) (less_none s)
+  more (suc i) (x ∷ s) (y ∷ t) hs ht =
+      ap (λ (l : List ℕ). (x + (p - q * y % p)) % p ∷ l) (more i s t (omega arith) (omega arith))
 
-  module _ {d : ℕ} {s t part : List ℕ} where
-    pub partly_read : {i : ℕ} → Partly d s t part i → get_or part i 0 ≡ get_or s i 0
-    partly_read {i} h = ap (λ (l : List ℕ). get_or l i 0) h.is ∙ read i s t
+  pub less-more : (s t : List ℕ) {part : List ℕ} {i x : ℕ} → part ≡ less p q s (take i t) → i < length s → i < length t
+      → x ≡ (get_or part i 0 + (p - q * get_or t i 0 % p)) % p → set part i x ≡ less p q s (take (i + 1) t)
+  less-more s t {part} {i} {x} is hs ht e = rw (add-one i, e, is, less-read i s t) (more i s t hs ht)
 
-    pub partly_more : {i x : ℕ} → Partly d s t part i → d ≤ length s → d ≤ length t → i < d
-        → x ≡ (get_or part i 0 + (p - q * get_or t i 0 % p)) % p
-        → Partly d s t (set part i x) (i + 1)
-    partly_more {i} {x} h hs ht less e =
-        record {
-          within = omega arith;
-          long = length-set part i x ∙ h.long;
-          is =
-              ap (λ (l : List ℕ). set l i x) h.is
-              ∙ ap (set (partly i s t) i) (e ∙ ap (λ (n : ℕ). (n + (p - q * get_or t i 0 % p)) % p) (partly_read h))
-              ∙ turn i s t (omega arith) (omega arith)
-              ∙ ap (λ (n : ℕ). partly n s t) (sym (add-one i));
-        }
-
-    pub partly-last : {i : ℕ} → Partly d s t part i → d ≤ i → part ≡ partly d s t
-    partly-last {i} h most = let e : i ≡ d = omega arith in h.is ∙ ap (λ (n : ℕ). partly n s t) e
+  pub less_cut : (d : ℕ) (s t : List ℕ) → length t ≤ d → less p q s t ≡ less p q (take d s) t ++ drop d s
+  unfolding less
+  less_cut zero s [] h = sym (less_none s)
+  less_cut zero s (y ∷ t) h = absurd (omega arith)
+  less_cut (suc d) [] t h = refl
+  less_cut (suc d) (x ∷ s) [] h = ap (λ (l : List ℕ). x ∷ l) (sym (take-append-drop d s))
+  less_cut (suc d) (x ∷ s) (y ∷ t) h = ap (λ (l : List ℕ). (x + (p - q * y % p)) % p ∷ l) (less_cut d s t (omega arith))

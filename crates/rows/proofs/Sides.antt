@@ -2,24 +2,23 @@
 --
 --   lies_swap      the two work rows change places
 --   lies-front     the first is the front of a longer one
-use Prim.Native.Nat.{ℕ, zero, suc, ◌-◌}
-use native.Mathlib.Omega.{arith}
-use mathlib.Core.List.{List, ◌++◌}
-use mathlib.Core.Path.{◌∙◌}
-use lib.ListN.{length-append}
-use lib.Seq.{take-append-le}
-use Rattle.rows.specs.Last.{Lies}
+use Rattle.std.proofs.Common.{arith, List, ℕ, ◌++◌, ◌≡◌, ◌∙◌, sym, subst, length-append}
+use Rattle.std.proofs.Math.Seq.{take-append-le}
+use Rattle.rows.specs.declared.Place.{Place}
+use Rattle.rows.specs.declared.Place.TheVariants.{First, Second}
+use Rattle.rows.specs.Last.{swapped, Lies}
 
-pub lies_swap : {row u w : List ℕ} (side : ℕ) {len : ℕ} → Lies row u w side len → Lies row w u (1 - side) len
-lies_swap zero h = record { sides = omega arith; within = h.within; is = h.is }
-lies_swap (suc zero) h = record { sides = omega arith; within = h.within; is = h.is }
-lies_swap (suc (suc side)) h = absurd (omega (arith, h.sides))
+swapped-lies : {row u w : List ℕ} (place : Place) → Lies row u w place → Lies row w u (swapped place)
+swapped-lies (First len) h = record { within = h.within; is = h.is }
+swapped-lies (Second len) h = record { within = h.within; is = h.is }
 
-pub lies-front : {row u w : List ℕ} (rest : List ℕ) (side : ℕ) {len : ℕ} → Lies row u w side len → Lies row (u ++ rest) w side len
-lies-front {row} {u} {w} rest zero {len} h =
+pub lies_swap : {row u w : List ℕ} {place after : Place} → after ≡ swapped place → Lies row u w place → Lies row w u after
+lies_swap {row} {u} {w} {place} e h = subst (Lies row w u) (sym e) (swapped-lies place h)
+
+pub lies-front : {row u w : List ℕ} (rest : List ℕ) (place : Place) → Lies row u w place → Lies row (u ++ rest) w place
+lies-front {row} {u} {w} rest (First len) h =
     record {
-      sides = h.sides;
       within = omega (arith, length-append u rest, h.within);
       is = take-append-le len u rest h.within ∙ h.is;
     }
-lies-front rest (suc side) h = record { sides = h.sides; within = h.within; is = h.is }
+lies-front rest (Second len) h = record { within = h.within; is = h.is }

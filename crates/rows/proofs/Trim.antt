@@ -1,66 +1,44 @@
--- Trimming, one entry at a time from the end.
+-- Trimming.
 --
---   Trimmed r k        past the place k the row r has only zeros
---   trimmed_first      nothing is past the end
---   trimmed-zero       a zero just below k is past k - 1
---   trimmed-some       anything else there ends the true row
---   trimmed_none       a row of zeros has no true row
+--   trim_zeros         a row of zeros has no true row
+--   trim-last          the true row ends with the last entry that is not 0
 --   trim-front         the true row is the front of r of its length
 --   trim-front-length  and that front is so long
-use Prim.Native.Nat.{ℕ, zero, suc, ◌-◌, ◌<◌, ◌≤◌}
-use native.Mathlib.Omega.{arith}
-use mathlib.Core.List.{List, [], ◌∷◌}
-use mathlib.Core.Logic.{◌≢◌}
-use mathlib.Core.Path.{◌≡◌, refl, sym, ap, ◌∙◌}
-use lib.ListN.{length, get_or, take}
-use lib.Seq.{length-take-le, take-length, get_or-take, ext_get_or}
-use Rattle.euclid.specs.Row.{joined, trim, declared}
-use Rattle.euclid.specs.RowLaws.{declared-length, ended-trim, trim-get_or, trim-length}
+use Rattle.std.proofs.Common.{ℕ, zero, suc, ◌+◌, ◌<◌, ◌≤◌, List, [], ◌∷◌, ◌≡◌, ◌≢◌, refl, sym, ap, ◌∙◌, arith, length, get_or, take, ext_get_or}
+use Rattle.std.proofs.Math.Seq.{length-take-le, get_or-take}
+use Rattle.euclid.specs.Row.{joined, trim}
+use Rattle.euclid.specs.RowLaws.{trim-get_or, trim-length}
 
-pub record Trimmed (r : List ℕ) (k : ℕ) : Type 0 where
-  pub within : k ≤ length r
-  pub is : trim (take k r) ≡ trim r
-
-pub trimmed_first : (r : List ℕ) → Trimmed r (length r)
-trimmed_first r = record { within = omega arith; is = ap trim (take-length r) }
-
-zero_end : (k : ℕ) (r : List ℕ) → get_or r k 0 ≡ 0 → trim (take k r) ≡ trim (take (suc k) r)
+-- where every entry is 0, nothing is left
+trim-none : (r : List ℕ) → ((j : ℕ) → j < length r → get_or r j 0 ≡ 0) → trim r ≡ []
 unfolding trim joined
-zero_end zero [] e = refl
-zero_end (suc k) [] e = refl
-zero_end zero (x ∷ r) e = sym (ap (λ (n : ℕ). joined n []) e)
-zero_end (suc k) (x ∷ r) e = ap (joined x) (zero_end k r e)
+trim-none [] zeros = refl
+trim-none (x ∷ r) zeros =
+    ap (joined x) (trim-none r (λ j l. zeros (suc j) (omega arith))) ∙ ap (λ (n : ℕ). joined n []) (zeros zero (omega arith))
 
-some_end : (k : ℕ) (r : List ℕ) → k < length r → get_or r k 0 ≢ 0 → trim (take (suc k) r) ≡ take (suc k) r
-some_end k r h some =
-    ended-trim (take (suc k) r) (omega (arith, long), λ e. some (sym (get_or-take (suc k) r k 0 (omega arith)) ∙ ap (λ (n : ℕ). get_or (take (suc k) r) n 0) top ∙ e))
-  where
-    long : length (take (suc k) r) ≡ suc k
-    long = length-take-le (suc k) r h
+pub trim_zeros : (r : List ℕ) → ((j : ℕ) → j < length r → get_or r j 0 ≡ 0) → 0 ≡ length (trim r)
+trim_zeros r zeros = sym (ap length (trim-none r zeros))
 
-    top : k ≡ declared (take (suc k) r)
-    top = omega (arith, long, declared-length (take (suc k) r) (omega (arith, long)))
+-- what stands in front of a true row, or of nothing, adds an entry
+joined_one : (x : ℕ) → x ≢ 0 → length (joined x []) ≡ 1
+unfolding joined
+joined_one zero some = absurd (some refl)
+joined_one (suc x) some = refl
 
-module _ {r : List ℕ} {k : ℕ} (h : Trimmed r k) where
-  module _ (pos : 0 < k) where
-    below : suc (k - 1) ≡ k
-    below = omega arith
+joined_more : (x : ℕ) (r : List ℕ) → 0 < length r → length (joined x r) ≡ length r + 1
+unfolding joined
+joined_more x [] some = absurd (omega arith)
+joined_more x (y ∷ r) some = omega arith
 
-    pub trimmed-zero : get_or r (k - 1) 0 ≡ 0 → Trimmed r (k - 1)
-    trimmed-zero e =
-        record {
-          within = omega (arith, h.within);
-          is = zero_end (k - 1) r e ∙ ap (λ (n : ℕ). trim (take n r)) below ∙ h.is;
-        }
-
-    pub trimmed-some : get_or r (k - 1) 0 ≢ 0 → k ≡ length (trim r)
-    trimmed-some some =
-        sym (length-take-le k r h.within)
-        ∙ ap length (ap (λ (n : ℕ). take n r) (sym below) ∙ sym (some_end (k - 1) r (omega (arith, h.within)) some) ∙ ap (λ (n : ℕ). trim (take n r)) below ∙ h.is)
-
-  pub trimmed_none : k ≤ 0 → k ≡ length (trim r)
-  unfolding trim
-  trimmed_none end = let e : k ≡ 0 = omega arith in e ∙ ap length (ap (λ (n : ℕ). trim (take n r)) (sym e) ∙ h.is)
+pub trim-last : (r : List ℕ) (i : ℕ) → i < length r → get_or r i 0 ≢ 0 → ((k : ℕ) → i + 1 ≤ k → k < length r → get_or r k 0 ≡ 0)
+    → i + 1 ≡ length (trim r)
+unfolding trim
+trim-last [] i inside some after = absurd (omega arith)
+trim-last (x ∷ r) zero inside some after =
+    sym (ap (λ (l : List ℕ). length (joined x l)) (trim-none r (λ j l. after (suc j) (omega arith) (omega arith))) ∙ joined_one x some)
+trim-last (x ∷ r) (suc i) inside some after =
+    let rest = trim-last r i (omega arith) some (λ k l h. after (suc k) (omega arith) (omega arith)) in
+    omega (arith, rest, joined_more x (trim r) (omega (arith, rest)))
 
 module _ (r : List ℕ) {k : ℕ} (e : k ≡ length (trim r)) where
   pub trim-front-length : k ≡ length (take k r)

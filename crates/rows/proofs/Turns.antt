@@ -1,7 +1,7 @@
 -- What one division adds to the answer of the sequence.
 --
 --   following_fuel          any bound that covers the row gives the same rows
---   Answer p rs u w v s side len    v, s, side, len answer the sequence rs, where the work rows end as u and w
+--   Answer p rs u w v s place    v, s and place answer the sequence rs, where the work rows end as u and w
 --   steps_most              rows of at most 17 entries take few steps
 --   next_constant, monic_constant   after a constant nothing follows; made monic it is 1
 --   by_last-zero, by_last-some        the formula by the degree of the last row
@@ -16,7 +16,6 @@ use mathlib.Core.Path.{◌≡◌, refl, sym, ap, ap₂, subst, ◌∙◌}
 use lib.ListN.{length, get_or, set}
 use lib.Seq.{take_all}
 use Rattle.ring.specs.Ring.{pow, sign}
-use Rattle.residue.specs.Prime.{Prime}
 use Rattle.residue.specs.Residue.{residues, res, val, res-val}
 use Rattle.euclid.specs.Row.{declared, degree, lead}
 use Rattle.euclid.specs.RowLaws.{trim-length, ended-degree, ended-lead}
@@ -27,7 +26,10 @@ use Rattle.euclid.specs.MonicLaws.{monic-length, monic-declared, monic-last}
 use Rattle.euclid.specs.FollowingLaws.{Neighbours, next, following_none, following-some}
 use Rattle.euclid.specs.StepsLaws.{steps-bound}
 use Rattle.euclid.proofs.SequenceLaws.{formula_two, formula_step, formula_head}
-use Rattle.rows.specs.Last.{last_row, Lies}
+use Rattle.field.specs.declared.Modulus.{Modulus}
+use Rattle.rows.specs.declared.Place.{Place}
+use Rattle.rows.specs.declared.Place.TheVariants.{Second}
+use Rattle.rows.specs.Last.{last_row, swapped, Lies}
 use Rattle.rows.proofs.Bounds.{declared-minus}
 use Rattle.rows.proofs.Sides.{lies_swap, lies-front}
 
@@ -51,28 +53,29 @@ following_fuel p (suc k) (suc l) a (x ∷ r) hk hl =
     ap (λ (rs : List (List ℕ)). (x ∷ r) ∷ rs)
     (following_fuel p k l (monic p (x ∷ r)) (next p a (x ∷ r)) (omega arith) (omega arith))
 
-abbrev pub Answer : ℕ → List (List ℕ) → List ℕ → List ℕ → ℕ → ℕ → ℕ → ℕ → Type 0
-Answer p rs u w v s side len =
-    (v ≡ val p (formula p rs)) × ((s ≡ steps (map degree rs)) × Lies (monic p (last_row rs)) u w side len)
+pub record Answer (p : ℕ) (rs : List (List ℕ)) (u w : List ℕ) (v s : ℕ) (place : Place) : Type 0 where
+  pub value : v ≡ val p (formula p rs)
+  pub steps : s ≡ steps (map degree rs)
+  pub lies : Lies (monic p (last_row rs)) u w place
 
 -- rows of at most 17 entries take few steps
-pub steps_most : (p : ℕ) → 2 ≤ p → Prime p → (a b : List ℕ) → Neighbours p a b → length a ≤ 17 → {s : ℕ} → s ≡ steps (map degree (sequence p a b)) → s ≤ 256
+pub steps_most : (p : Modulus) (a b : List ℕ) → Neighbours p.value a b → length a ≤ 17 → {s : ℕ} → s ≡ steps (map degree (sequence p.value a b)) → s ≤ 256
 unfolding sequence
-steps_most p two prime a b n most e =
+steps_most p a b n most e =
     omega (
       arith,
       e,
-      steps-bound p two prime (length b) a b n (omega arith),
+      steps-bound p.value p.least p.prime (length b) a b n (omega arith),
       mul-le-mul {n₁ = declared a} {m₁ = declared b} {n₂ = 16} {m₂ = 16} (omega (arith, declared-minus a)) (omega (arith, declared-minus a, n.order)),
     )
 
 -- where b is a constant, its monic row is 1 and nothing follows
-pub monic_constant : (p : ℕ) → 2 ≤ p → Prime p → (a b : List ℕ) → Neighbours p a b → length b - 1 ≡ 0 → set b 0 1 ≡ monic p b
+pub monic_constant : (p : Modulus) (a b : List ℕ) → Neighbours p.value a b → length b - 1 ≡ 0 → set b 0 1 ≡ monic p.value b
 unfolding monic declared
-monic_constant p two prime a [] n e = absurd (omega (arith, n.second_ended.0))
-monic_constant p two prime a (x ∷ []) n e =
-    ap (λ (y : ℕ). y ∷ []) (sym (monic-last p two prime (x ∷ []) n.second_ended n.second_below))
-monic_constant p two prime a (x ∷ y ∷ b) n e = absurd (omega arith)
+monic_constant p a [] n e = absurd (omega (arith, n.second_ended.0))
+monic_constant p a (x ∷ []) n e =
+    ap (λ (y : ℕ). y ∷ []) (sym (monic-last p.value p.least p.prime (x ∷ []) n.second_ended n.second_below))
+monic_constant p a (x ∷ y ∷ b) n e = absurd (omega arith)
 
 pub next_constant : (p : ℕ) (a b : List ℕ) → length b - 1 ≡ 0 → next p a b ≡ []
 next_constant p a b e = empty (next p a b) (omega (arith, next-length p a b, declared-minus b))
@@ -131,21 +134,20 @@ module _ (p : ℕ) where
           ∙ ap (λ (rs : List (List ℕ)). a ∷ b ∷ rs)
           (ap (following p (length (next p a b)) (monic p b)) e ∙ following_none p (length (next p a b)) (monic p b))
 
-      pub answer-last : {w : List ℕ} (u : List ℕ) {v s len : ℕ} → v ≡ val p (by_last p k (pow (residues p) (res p (get_or b k 0)) m))
-          → s ≡ count (length a) (declared b) → w ≡ monic p b → len ≡ length b → Answer p (sequence p a b) u w v s 1 len
+      pub answer-last : {w : List ℕ} (u : List ℕ) {v s : ℕ} (len : ℕ) → v ≡ val p (by_last p k (pow (residues p) (res p (get_or b k 0)) m))
+          → s ≡ count (length a) (declared b) → w ≡ monic p b → len ≡ length b → Answer p (sequence p a b) u w v s (Second len)
       unfolding steps last_row
-      answer-last {w} u {v} {s} {len} ev es ew el =
-          subst (λ (rs : List (List ℕ)). Answer p rs u w v s 1 len) (sym sequence-last) (
-            ev ∙ ap (val p) (sym (formula_two p a b ∙ ap₂ (by_last p) degree_second power_is)),
-            (
-              es ∙ sym (add-zero _ ∙ steps_is),
-              record {
-                sides = omega arith;
-                within = omega (arith, ap length ew, monic-length p b);
-                is = take_all len w (omega (arith, ap length ew, monic-length p b)) ∙ ew;
-              },
-            ),
-          )
+      answer-last {w} u {v} {s} len ev es ew el =
+          subst (λ (rs : List (List ℕ)). Answer p rs u w v s (Second len)) (sym sequence-last)
+          record {
+            value = ev ∙ ap (val p) (sym (formula_two p a b ∙ ap₂ (by_last p) degree_second power_is));
+            steps = es ∙ sym (add-zero _ ∙ steps_is);
+            lies =
+                record {
+                  within = omega (arith, ap length ew, monic-length p b);
+                  is = take_all len w (omega (arith, ap length ew, monic-length p b)) ∙ ew;
+                };
+          }
 
     -- the sequence goes on
     module _ (more : Neighbours p (monic p b) (next p a b)) where
@@ -168,23 +170,23 @@ module _ (p : ℕ) where
       same-degree : degree b ≡ degree d
       same-degree = ended-degree b n.second_ended ∙ sym (monic-declared p b) ∙ sym (ended-degree d more.first_ended)
 
-      pub answer_more : {u w : List ℕ} (over : List ℕ) {v s x y : ℕ} (side : ℕ) {len : ℕ} → Answer p (sequence p (monic p b) (next p a b)) u w x y side len
+      pub answer_more : {u w : List ℕ} (over : List ℕ) {v s x y : ℕ} {place after : Place} → Answer p (sequence p (monic p b) (next p a b)) u w x y place
           → v ≡ val p (pow (residues p) (res p (get_or b k 0)) m ⊗ (sign (residues p) (m * k) ⊗ res p x))
-          → s ≡ count (length a) (declared b) → Answer p (sequence p a b) (w ++ over) u v (s + y) (1 - side) len
+          → s ≡ count (length a) (declared b) → after ≡ swapped place → Answer p (sequence p a b) (w ++ over) u v (s + y) after
       unfolding steps last_row
-      answer_more {u} {w} over {v} {s} {x} {y} side {len} inner ev es =
-          subst (λ (rs : List (List ℕ)). Answer p rs (w ++ over) u v (s + y) (1 - side) len) (sym sequence_more) (
-            ev ∙ ap (val p) (sym value),
-            (
-              ap₂ (λ (i j : ℕ). i + j) (es ∙ sym steps_is) (known.1.0 ∙ ap (λ (j : ℕ). steps (j ∷ degree t ∷ map degree rest.0)) (sym same-degree)),
-              lies-front over (1 - side) (lies_swap side known.1.1),
-            ),
-          )
+      answer_more {u} {w} over {v} {s} {x} {y} {place} {after} inner ev es ea =
+          subst (λ (rs : List (List ℕ)). Answer p rs (w ++ over) u v (s + y) after) (sym sequence_more)
+          record {
+            value = ev ∙ ap (val p) (sym value);
+            steps =
+                ap₂ (λ (i j : ℕ). i + j) (es ∙ sym steps_is) (known.steps ∙ ap (λ (j : ℕ). steps (j ∷ degree t ∷ map degree rest.0)) (sym same-degree));
+            lies = lies-front over after (lies_swap ea known.lies);
+          }
         where
-          known : Answer p (d ∷ t ∷ rest.0) u w x y side len
-          known = subst (λ (rs : List (List ℕ)). Answer p rs u w x y side len) sequence-next inner
+          known : Answer p (d ∷ t ∷ rest.0) u w x y place
+          known = subst (λ (rs : List (List ℕ)). Answer p rs u w x y place) sequence-next inner
 
           value : formula p (a ∷ b ∷ t ∷ rest.0) ≡ pow (residues p) (res p (get_or b k 0)) m ⊗ (sign (residues p) (m * k) ⊗ res p x)
           value =
               formula_step p a b t rest.0
-              ∙ ap₂ ◌⊗◌ power_is (ap₂ ◌⊗◌ (ap₂ (λ (i j : ℕ). sign (residues p) (i * j)) degree_first degree_second) (formula_head p b d t rest.0 same-degree ∙ sym (ap (res p) known.0 ∙ res-val p _)))
+              ∙ ap₂ ◌⊗◌ power_is (ap₂ ◌⊗◌ (ap₂ (λ (i j : ℕ). sign (residues p) (i * j)) degree_first degree_second) (formula_head p b d t rest.0 same-degree ∙ sym (ap (res p) known.value ∙ res-val p _)))

@@ -2,13 +2,15 @@
 --
 --   sign_even, sign_odd    (-1)^n by the last binary digit of n
 --   val_is                 a number below p is the number of its residue
+--   value_below            the number of a residue is below p
 use Prim.Native.Nat.{ℕ, ◌+◌, ◌-◌, ◌%◌, ◌/◌, ◌<◌}
 use native.Mathlib.Omega.{arith}
 use mathlib.Core.Path.{◌≡◌, sym, ap, ◌∙◌}
-use Rattle.ring.specs.Ring.{sign}
+use Rattle.ring.specs.Ring.{Ring, sign}
 use Rattle.ring.specs.RingLaws.{one-⊗, zero-⊕, neg-⊗, sign-add, sign_sq}
-use Rattle.residue.specs.Residue.{residues, res, val, val-res_small, res-zero}
+use Rattle.residue.specs.Residue.{residues, res, val, val-lt, val-res_small, res-zero}
 use Rattle.residue.specs.Computed.{difference-res}
+use Rattle.field.specs.declared.Modulus.{Modulus}
 
 module _ (p : ℕ) where
   open residues p use {C, ◌⊕◌, ◌⊗◌, ⊖◌, 𝟘, 𝟙}
@@ -37,3 +39,6 @@ module _ (p : ℕ) where
 
   pub val_is : {r : ℕ} {x : C} → r < p → res p r ≡ x → r ≡ val p x
   val_is less e = sym (val-res_small less) ∙ ap (val p) e
+
+pub value_below : (p : Modulus) (x : Ring.C (residues p.value)) {r : ℕ} → r ≡ val p.value x → r < p.value
+value_below p x e = rw e (val-lt p.value (omega (arith, p.least)) x)

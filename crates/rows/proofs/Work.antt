@@ -20,13 +20,11 @@ use Rattle.euclid.specs.RowLaws.{Below}
 use Rattle.euclid.specs.Division.{less, entry, rest, divide, remainder, quotient}
 use Rattle.euclid.specs.DivisionLaws.{less-length, divide-length, divide-count, divide-below, divide-quotient-below}
 use Rattle.rows.proofs.Bounds.{below-append, below-take, below-drop}
+use Rattle.rows.proofs.Places.{less_cut}
 
 -- the part of a row from the place j to its end
 pub part_end : (j : ℕ) (row : List ℕ) → mid_of j (length row - j) row ≡ drop j row
 part_end j row = take_all (length row - j) (drop j row) (omega (arith, length-drop j row))
-
-pub part_length : (j : ℕ) (row : List ℕ) → length (mid_of j (length row - j) row) ≡ length row - j
-part_length j row = ap length (part_end j row) ∙ length-drop j row
 
 put_end : (j : ℕ) (row ys : List ℕ) → put_mid j (length row - j) row ys ≡ take j row ++ ys
 put_end j row ys =
@@ -81,7 +79,10 @@ module _ (p d : ℕ) (a b : List ℕ) where
     pub long : length row ≡ length a
     pub below : Below p row
 
-  module _ (pos : 0 < p) (same : d ≡ declared b) (fits : d ≤ length a) (bound : Below p a) where
+  module _ (same : d ≡ declared b) (fits : d ≤ length a) (bound : Below p a) where
+    pos : 0 < p
+    pos = omega (arith, bound 0)
+
     up-length : length (drop top a) ≡ declared b
     up-length = length-drop top a ∙ omega arith
 
@@ -152,20 +153,17 @@ module _ (p d : ℕ) (a b : List ℕ) where
           ∙ get_or-append (next j) (left (suc j)).1 0 d (omega (arith, next-length j))
 
       pub work_more : {q f : ℕ} {ys : List ℕ} → f ≡ inverse p (get_or b (declared b) 0) → q ≡ get_or row (j + d) 0 * f % p
-          → ys ≡ less p q (take d (mid_of j (length row - j) row)) (take d b) ++ drop d (mid_of j (length row - j) row)
+          → ys ≡ less p q (mid_of j (length row - j) row) (take d b)
           → Work (set (put_mid j (length row - j) row ys) (j + d) q) j
       unfolding divide rest entry next
       work_more {q} {f} {ys} ef eq ey =
           work (omega (arith, h.within))
-          (ap (λ (l : List ℕ). set l (j + d) q) (put_end j row ys ∙ ap (λ (l : List ℕ). l ++ ys) front ∙ ap (λ (l : List ℕ). take j a ++ l) (ey ∙ ap places (part_end j row ∙ back)))
+          (ap (λ (l : List ℕ). set l (j + d) q) (put_end j row ys ∙ ap (λ (l : List ℕ). l ++ ys) front ∙ ap (λ (l : List ℕ). take j a ++ l) (ey ∙ ap (λ (l : List ℕ). less p q l (take d b)) (part_end j row ∙ back) ∙ less_cut p q d (next j ++ post) (take d b) (omega (arith, length-take d b))))
           ∙ taken p q j d b (take j a) (next j) post front_length (next-length j)
           ∙ ap (λ (l : List ℕ). take j a ++ l) (ap (λ (n : ℕ). less p q (take n (next j)) (take n b) ++ q ∷ post) same ∙ ap (λ (n : ℕ). less p n (take (declared b) (next j)) (take (declared b) b) ++ n ∷ post) is-entry ∙ ap (λ (l : List ℕ). (divide p b l (drop top a)).0 ++ (divide p b l (drop top a)).1) (sym low)))
         where
           post : List ℕ
           post = (left (suc j)).1
-
-          places : List ℕ → List ℕ
-          places l = less p q (take d l) (take d b) ++ drop d l
 
           front : take j row ≡ take j a
           front = ap (take j) turned ∙ take_at (take j a) (next j ++ post) j front_length

@@ -1,169 +1,124 @@
 -- The kept pairs of a record, tested one by one.
 --
---   Fine P points i      the point at i is below p, not among those before it, and usable
---   at_bad               it is not: the pair at i would not have been kept
---   at_value             it is: the value decides
---   Passed .. i          the pairs before i would have been kept
---   passed_none          no pair is passed yet
---   passed_more          the pair at i would have been kept too
---   passed_bad           it would not
---   passed_all           every pair is passed
-use Prim.Native.Nat.{ℕ, zero, suc, ◌+◌, ◌≤◌, ◌<◌}
-use native.Mathlib.Omega.{arith}
-use mathlib.Core.Bool.{Bool, true, false, ◌&&◌, and-eq-true_iff}
-use mathlib.Core.List.{List, [], ◌∷◌, map}
-use mathlib.Core.Path.{◌≡◌, refl, sym, ap, ◌∙◌}
-use lib.Dec.{eqb}
-use lib.ListN.{length, get_or, take, length-map}
-use lib.Seq.{length-take-le, get_or-take, ext_get_or}
-use borrow.Author.Count.{below_more}
-use borrow.Author.Tests.{eqb-true, eq-eqb, ne_eqb}
+--   at_tests       a pair is kept where its point is below p, new and usable, and its value is the point's own
+--   Kept P points values i    the pair at i would have been kept after those before it
+--   Lost P points values i    it would not
+--   tests          these, for the tests of one pair
+--   pairs_tested   the test of all pairs holds exactly where each would have been kept
+use Rattle.std.specs.Prelude.{ℕ, ◌+◌, ◌<◌, Bool, true, false, not, ◌&&◌, List, [], map, ◌≡◌, refl, leb, eqb, length, get_or, take}
+use Rattle.std.proofs.Common.{arith, ap, sym, ◌∙◌, subst, length-take-le, get_or-take}
+use Rattle.std.proofs.Math.Bool.{and-eq-true_iff}
+use Rattle.std.proofs.lemmas.Bool.Decides.{nat_tests}
+use Rattle.std.proofs.lemmas.Grind.{common_steps}
+use Rattle.std.specs.Bool.{MatchBool}
+use Rattle.std.specs.List.{AllWithin, HoldsAt, range_with_len}
+use Rattle.std.proofs.lemmas.List.FromFn.{length-range_with_len, get_or-range_with_len}
+use Rattle.std.proofs.lemmas.List.{length-map, ext_get_or, get_or-map}
 use Rattle.scope.specs.Pair.{Pair}
 use Rattle.scope.specs.Point.{usable, kept}
-use Rattle.scope.specs.Number.{among, point_number}
-use Rattle.job.specs.Sound.{same, good}
+use Rattle.scope.specs.Number.{◌gives◌otherwise◌, among, point_number}
 use Rattle.scope.specs.TestLaws.{among_false, point_number-zero}
+use Rattle.job.specs.Sound.{same, good}
 use Rattle.job.specs.SoundTests.{both_true, same_true, Good, good_true}
+use Rattle.offers.specs.Among.{among_any}
 use Rattle.sounding.specs.Parts.{kept_at, kept_pairs}
 
-abbrev pub Fine : Pair → List ℕ → ℕ → Type 0
-Fine P points i =
-    (get_or points i 0 < P.p) × (among (get_or points i 0) (take i points) ≡ false) × (usable P (get_or points i 0) ≡ true)
+point_tests : (l a u b : Bool) → (eqb (l gives 10 otherwise a gives 12 otherwise not u gives 11 otherwise 0) 0 && b) ≡ (not l && not a && u && b)
+unfolding ◌gives◌otherwise◌
+point_tests true a u b = refl
+point_tests false true u b = refl
+point_tests false false true b = refl
+point_tests false false false b = refl
+
+pub at_tests : (P : Pair) (before : List ℕ) (a value : ℕ)
+    → kept_at P before a value ≡ (not (leb P.p a) && not (among a before) && usable P a && eqb value (kept P a))
+unfolding kept_at point_number
+at_tests P before a value = point_tests (leb P.p a) (among a before) (usable P a) (eqb value (kept P a))
+
+pub ruleset tests = (nat_tests, at_tests, among_any)
+
+abbrev pub Kept : Pair → List ℕ → List ℕ → ℕ → Type 0
+Kept P points values i = kept_at P (take i points) (get_or points i 0) (get_or values i 0) ≡ true
+
+abbrev pub Lost : Pair → List ℕ → List ℕ → ℕ → Type 0
+Lost P points values i = kept_at P (take i points) (get_or points i 0) (get_or values i 0) ≡ false
 
 module _ (P : Pair) (points values : List ℕ) where
   module _ (i : ℕ) where
-    number : ℕ
-    number = point_number P (take i points) (get_or points i 0)
+    Fine : Type 0
+    Fine = (get_or points i 0 < P.p) × (among (get_or points i 0) (take i points) ≡ false) × (usable P (get_or points i 0) ≡ true)
 
-    pub at_bad : (Fine P points i → ⊥) → false ≡ kept_at P points values i
-    unfolding kept_at number
-    at_bad h =
-        sym (ap (λ (b : Bool). b && eqb (get_or values i 0) (kept P (get_or points i 0)))
-        (ne_eqb number 0 (λ e. h ((point_number-zero P (take i points) (get_or points i 0)).0 e))))
+    at_each : Kept P points values i → Fine × (get_or values i 0 ≡ kept P (get_or points i 0))
+    unfolding kept_at Fine
+    at_each h = ((point_number-zero P (take i points) (get_or points i 0)).0 (grind (arith, common_steps)), grind (arith, common_steps))
 
-    pub at_value : Fine P points i → {v : ℕ} → v ≡ kept P (get_or points i 0) → eqb (get_or values i 0) v ≡ kept_at P points values i
-    unfolding kept_at number
-    at_value f {v} e =
-        sym (ap (λ (b : Bool). b && eqb (get_or values i 0) (kept P (get_or points i 0)))
-        (eq-eqb number 0 ((point_number-zero P (take i points) (get_or points i 0)).1 f))
-        ∙ ap (eqb (get_or values i 0)) (sym e))
+    each_at : Fine → get_or values i 0 ≡ kept P (get_or points i 0) → Kept P points values i
+    unfolding kept_at Fine
+    each_at f e = let zero = (point_number-zero P (take i points) (get_or points i 0)).1 f in grind (arith, common_steps)
 
-    at_each : kept_at P points values i ≡ true → Fine P points i × (get_or values i 0 ≡ kept P (get_or points i 0))
-    unfolding kept_at number
-    at_each h =
-        let (point, val) = (and-eq-true_iff (eqb number 0) (eqb (get_or values i 0) (kept P (get_or points i 0)))).0 h in
-        ((point_number-zero P (take i points) (get_or points i 0)).0 (eqb-true number 0 point), eqb-true (get_or values i 0) (kept P (get_or points i 0)) val)
+  before_at : (i k : ℕ) → i < length points → k < i → get_or (take i points) k 0 ≡ get_or points k 0
+  before_at i k l h = get_or-take i points k 0 h
 
-    each_at : Fine P points i → get_or values i 0 ≡ kept P (get_or points i 0) → kept_at P points values i ≡ true
-    each_at f e = sym (at_value f refl) ∙ eq-eqb (get_or values i 0) (kept P (get_or points i 0)) e
-
-get_or-map_in : (f : ℕ → ℕ) (l : List ℕ) (i : ℕ) → i < length l → get_or (map f l) i 0 ≡ f (get_or l i 0)
-get_or-map_in f [] i h = absurd (omega arith)
-get_or-map_in f (x ∷ l) zero h = refl
-get_or-map_in f (x ∷ l) (suc i) h = get_or-map_in f l i (omega arith)
-
-module _ (P : Pair) (points values : List ℕ) (n : ℕ) where
-  -- the first n points, and the values that would have been kept at them
-  xs : List ℕ
-  xs = take n points
-
-  vs : List ℕ
-  vs = map (kept P) (take n points)
-
-  pub record Passed (i : ℕ) : Type 0 where
-    pub room_points : n ≤ length points
-    pub room_values : n ≤ length values
-    pub within : i ≤ n
-    pub each : (k : ℕ) → k < i → kept_at P points values k ≡ true
-
-  pub passed_none : n ≤ length points → n ≤ length values → Passed 0
-  passed_none p v = record { room_points = p; room_values = v; within = omega arith; each = λ k l. absurd (omega arith) }
-
-  pub passed_more : {i : ℕ} → Passed i → i < n → kept_at P points values i ≡ true → Passed (i + 1)
-  passed_more {i} s l h = record {
-    room_points = s.room_points;
-    room_values = s.room_values;
-    within = omega arith;
-    each = below_more (λ k. kept_at P points values k ≡ true) i s.each h;
-  }
-
-  module _ (room_points : n ≤ length points) (room_values : n ≤ length values) where
-    long : length xs ≡ n
-    unfolding xs
-    long = length-take-le n points room_points
-
-    at : (i : ℕ) → i < n → get_or xs i 0 ≡ get_or points i 0
-    unfolding xs
-    at i l = get_or-take n points i 0 l
-
-    -- the points before i, as a list
-    before_long : (i : ℕ) → i < n → length (take i points) ≡ i
-    before_long i l = length-take-le i points (omega (arith, room_points))
-
-    value_at_lem : (i : ℕ) → i < n → get_or vs i 0 ≡ kept P (get_or points i 0)
-    unfolding vs xs
-    value_at_lem i l = get_or-map_in (kept P) xs i (omega (arith, long)) ∙ ap (kept P) (at i l)
-
-    pairs-each : kept_pairs P points values n ≡ true → (i : ℕ) → i < n → kept_at P points values i ≡ true
-    unfolding kept_pairs xs vs
-    pairs-each h i l = each_at P points values i (below, new, fine) value
-      where
-        parts : (good P [] xs ≡ true) × (same (take n values) vs ≡ true)
-        parts = (and-eq-true_iff (good P [] xs) (same (take n values) vs)).0 h
-
-        g : Good P [] xs
-        g = (good_true P [] xs).0 parts.0
-
-        below : get_or points i 0 < P.p
-        below = rw (← at i l) (g.below i (omega (arith, long)))
-
-        new : among (get_or points i 0) (take i points) ≡ false
-        new =
-            (among_false (get_or points i 0) (take i points)).1 λ k b e.
-            g.apart k i (omega (arith, before_long i l)) (omega (arith, long))
-            (at k (omega (arith, before_long i l)) ∙ sym (get_or-take i points k 0 (omega (arith, before_long i l))) ∙ sym e ∙ sym (at i l))
-
-        fine : usable P (get_or points i 0) ≡ true
-        fine = rw (← at i l) (g.usable i (omega (arith, long)))
-
-        value : get_or values i 0 ≡ kept P (get_or points i 0)
-        value =
-            sym (get_or-take n values i 0 l)
-            ∙ ap (λ (r : List ℕ). get_or r i 0) ((same_true (take n values) vs).0 parts.1)
-            ∙ value_at_lem i l
-
-    each_pairs : ((i : ℕ) → i < n → kept_at P points values i ≡ true) → kept_pairs P points values n ≡ true
-    unfolding kept_pairs xs vs among
-    each_pairs h = both_true (good P [] xs) (same (take n values) vs) ((good_true P [] xs).1 g) ((same_true (take n values) vs).1 equal)
-      where
-        facts : (i : ℕ) → i < n → Fine P points i × (get_or values i 0 ≡ kept P (get_or points i 0))
-        facts i l = at_each P points values i (h i l)
-
-        g : Good P [] xs
-        g = record {
-          below = λ i l. let b : i < n = omega (arith, long) in rw (at i b) (facts i b).0.0;
-          new = λ i l. refl;
-          usable = λ i l. let b : i < n = omega (arith, long) in rw (at i b) (facts i b).0.2;
-          apart = λ i k o l e.
-              let b : k < n = omega (arith, long) in
-              (among_false (get_or points k 0) (take k points)).0 (facts k b).0.1 i (omega (arith, before_long k b))
-              (sym (at k b) ∙ sym e ∙ at i (omega arith) ∙ sym (get_or-take k points i 0 o));
-        }
-
-        equal : take n values ≡ vs
-        equal =
-            ext_get_or 0 (take n values) vs
-            (length-take-le n values room_values ∙ sym long ∙ sym (length-map xs (kept P)))
-            λ i l.
-            let b : i < n = omega (arith, length-take-le n values room_values) in
-            get_or-take n values i 0 b ∙ (facts i b).1 ∙ sym (value_at_lem i b)
-
-  pub passed_bad : {i : ℕ} → Passed i → i < n → kept_at P points values i ≡ false → false ≡ kept_pairs P points values n
-  passed_bad {i} s l h = go (kept_pairs P points values n) refl
+  pairs_each : kept_pairs P points values ≡ true → (i : ℕ) → i < length points → Kept P points values i
+  unfolding kept_pairs Fine
+  pairs_each h i l = each_at i (g.below i l, new, g.usable i l) value
     where
-      go : (t : Bool) → kept_pairs P points values n ≡ t → false ≡ t
-      go true e = sym h ∙ pairs-each s.room_points s.room_values e i l
-      go false e = refl
+      parts : (good P [] points ≡ true) × (same values (map (kept P) points) ≡ true)
+      parts = (and-eq-true_iff (good P [] points) (same values (map (kept P) points))).0 h
 
-  pub passed_all : {i : ℕ} → Passed i → n ≤ i → true ≡ kept_pairs P points values n
-  passed_all {i} s l = sym (each_pairs s.room_points s.room_values (λ k b. s.each k (omega arith)))
+      g : Good P [] points
+      g = (good_true P [] points).0 parts.0
+
+      new : among (get_or points i 0) (take i points) ≡ false
+      new =
+          (among_false (get_or points i 0) (take i points)).1 λ k b e.
+          let here : k < i = omega (arith, length-take-le i points (omega arith)) in
+          g.apart k i here l (sym (before_at i k l here) ∙ sym e)
+
+      value : get_or values i 0 ≡ kept P (get_or points i 0)
+      value = ap (λ (r : List ℕ). get_or r i 0) ((same_true values (map (kept P) points)).0 parts.1) ∙ get_or-map (kept P) points i 0 0 l
+
+  each_pairs : length points ≡ length values → ((i : ℕ) → i < length points → Kept P points values i) → kept_pairs P points values ≡ true
+  unfolding kept_pairs Fine among
+  each_pairs long h = both_true (good P [] points) (same values (map (kept P) points)) ((good_true P [] points).1 g) ((same_true values (map (kept P) points)).1 equal)
+    where
+      facts : (i : ℕ) → i < length points → Fine i × (get_or values i 0 ≡ kept P (get_or points i 0))
+      facts i l = at_each i (h i l)
+
+      g : Good P [] points
+      g = record {
+        below = λ i l. (facts i l).0.0;
+        new = λ i l. refl;
+        usable = λ i l. (facts i l).0.2;
+        apart = λ i k b l e.
+            (among_false (get_or points k 0) (take k points)).0 (facts k l).0.1 i (omega (arith, length-take-le k points (omega arith)))
+            (sym e ∙ sym (before_at k i l b));
+      }
+
+      equal : values ≡ map (kept P) points
+      equal =
+          ext_get_or 0 values (map (kept P) points) (sym long ∙ sym (length-map points (kept P)))
+          λ i l.
+          let b : i < length points = omega arith in
+          (facts i b).1 ∙ sym (get_or-map (kept P) points i 0 0 b)
+
+  -- the indices of the pairs
+  indices : List ℕ
+  indices = range_with_len 0 (length points)
+
+  index : (i : ℕ) → i < length points → get_or indices i 0 ≡ i
+  unfolding indices
+  index i l = let none : 0 + i ≡ i = omega arith in get_or-range_with_len 0 (length points) i 0 l ∙ none
+
+  -- the pairs tested one after the other, up to the first that would not have been kept
+  pub pairs_tested : length points ≡ length values → (r : Bool)
+      → MatchBool r (AllWithin (Kept P points values) (range_with_len 0 (length points)) 0 (length (range_with_len 0 (length points))))
+      ((k : ℕ) × (k < length (range_with_len 0 (length points))) × HoldsAt (Lost P points values) (range_with_len 0 (length points)) k)
+      → r ≡ kept_pairs P points values
+  unfolding indices
+  pairs_tested long true all =
+      sym (each_pairs long (λ i l. subst (Kept P points values) (index i l) (all i 0 (omega arith) (omega (arith, length-range_with_len 0 (length points))))))
+  pairs_tested long false (k, l, other) =
+      let inside : k < length points = omega (arith, length-range_with_len 0 (length points)) in
+      let lost : Lost P points values k = subst (Lost P points values) (index k inside) (other 0) in
+      grind (arith, common_steps, λ (e : kept_pairs P points values ≡ true). pairs_each e k inside)

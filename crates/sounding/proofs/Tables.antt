@@ -1,44 +1,14 @@
--- A table of 289 entries, tested as an accepted opening would have laid it out.
+-- The rows of a table of degree 16 in y, up to and with the leading one.
 --
---   table_tests        the tests of a table, one to a place
---   table_fails       one of them fails
---   table_decided     all but the last hold: it decides
---   front_length      the rows up to m have (m + 1) * 17 entries
---   front_lead        they have the table's leading row
-use Prim.Native.Nat.{ℕ, ◌+◌, ◌*◌, ◌≤◌}
-use native.Mathlib.Omega.{arith}
+--   front_lead      they have the table's leading row
+use Rattle.std.proofs.Common.{ℕ, ◌+◌, ◌*◌, not, List, ◌≡◌, sym, ap, ◌∙◌, arith, eqb, take, get_or-take}
 use native.Mathlib.Decide.{dec_le}
-use mathlib.Core.Bool.{Bool, true, false, not}
-use mathlib.Core.List.{List, [], ◌∷◌}
-use mathlib.Core.Path.{◌≡◌, sym, ap, ◌∙◌, fun_ext}
-use lib.Dec.{eqb}
-use lib.ListN.{length, get_or, take, drop}
-use lib.Seq.{get_or-take, length-take-le}
-use Rattle.scope.specs.Pair.{place, term, some, occurs, largest}
-use Rattle.scope.specs.Number.{over, no_lead}
-use Rattle.job.specs.Sound.{zeros}
+use mathlib.Core.Path.{fun_ext}
+use Rattle.scope.specs.Pair.{place, term, some}
+use Rattle.scope.specs.Number.{no_lead}
 use Rattle.scope.specs.TableLaws.{term_inside, term_high}
-use Rattle.job.specs.SoundTests.{done, ◌also◌}
-use Rattle.sounding.specs.Parts.{sound_table}
-use Rattle.sounding.proofs.Tests.{failed, decided}
-
-abbrev pub table_tests : (p m d : ℕ) → List ℕ → List Bool
-table_tests p m d t = not (over p t) ∷ zeros (drop ((m + 1) * 17) t) ∷ not (no_lead m 16 t) ∷ eqb d (largest 16 (occurs m (term 16 t))) ∷ []
-
-module _ (p m d : ℕ) (t : List ℕ) where
-  pub table_fails : (k : ℕ) → get_or (table_tests p m d t) k true ≡ false → false ≡ sound_table p m d t
-  unfolding sound_table
-  table_fails k h = sym (failed (table_tests p m d t) k h)
-
-  pub table_decided : over p t ≡ false → zeros (drop ((m + 1) * 17) t) ≡ true → no_lead m 16 t ≡ false
-      → {r : ℕ} → r ≡ largest 16 (occurs m (term 16 t)) → eqb d r ≡ sound_table p m d t
-  unfolding sound_table
-  table_decided below clear lead e = ap (eqb d) e ∙ sym (decided (ap not below also clear also ap not lead also done) (eqb d (largest 16 (occurs m (term 16 t)))))
 
 module _ (m : ℕ) (t : List ℕ) where
-  pub front_length : m ≤ 16 → length t ≡ 289 → length (take ((m + 1) * 17) t) ≡ (m + 1) * 17
-  front_length low long = length-take-le ((m + 1) * 17) t (omega arith)
-
   front-term : (j : ℕ) → term 16 (take ((m + 1) * 17) t) m j ≡ term 16 t m j
   unfolding place
   front-term j =

@@ -1,3 +1,2 @@
--- The test of a record in the parts in which the code makes it, and what each part leaves to the next.
+-- The test of a record in the parts in which the code makes it.
 pub mod Parts
-pub mod Opened

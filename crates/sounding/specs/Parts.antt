@@ -3,12 +3,11 @@
 --   sound_numbers p m n             the modulus and the degrees in x are those of an accepted opening
 --   sound_table p m d t             a table of 289 entries with degrees m in x and d in y, as an accepted opening lays it out
 --   sound_tables p m da n db s t    two such tables, with as many usable points as they need
---   kept_at P points values i       the pair at i would have been kept after those before it, and with this value
---   kept_pairs P points values n    so would each of the first n
---   sound_kept P points values n    they are no more than are needed, each would have been kept, and the other slots are empty
-use Rattle.std.specs.Prelude.{ℕ, ◌+◌, ◌*◌, Bool, not, ◌&&◌, List, [], map, leb, eqb, get_or, take, drop}
+--   kept_at P before a value        the point a would have been kept after those before it, and with this value
+--   kept_pairs P points values      each of the points would have been kept after those before it, and with its value
+use Rattle.std.specs.Prelude.{ℕ, ◌+◌, ◌*◌, Bool, not, ◌&&◌, List, [], map, eqb, drop}
 use Rattle.scope.specs.Pair.{Pair, term, tables, occurs, largest}
-use Rattle.scope.specs.Point.{kept, needed, enough}
+use Rattle.scope.specs.Point.{kept, enough}
 use Rattle.scope.specs.Number.{outside, composite, too_high, over, no_lead, point_number}
 use Rattle.job.specs.Sound.{zeros, same, good}
 
@@ -21,11 +20,8 @@ sound_table p m d t = not (over p t) && zeros (drop ((m + 1) * 17) t) && not (no
 unfoldable pub sound_tables : (p m da n db : ℕ) → List ℕ → List ℕ → Bool
 sound_tables p m da n db s t = sound_table p m da s && sound_table p n db t && enough (tables p m 16 n 16 s t)
 
-unfoldable pub kept_at : Pair → List ℕ → List ℕ → ℕ → Bool
-kept_at P points values i = eqb (point_number P (take i points) (get_or points i 0)) 0 && eqb (get_or values i 0) (kept P (get_or points i 0))
+unfoldable pub kept_at : Pair → List ℕ → (a value : ℕ) → Bool
+kept_at P before a value = eqb (point_number P before a) 0 && eqb value (kept P a)
 
-unfoldable pub kept_pairs : Pair → List ℕ → List ℕ → ℕ → Bool
-kept_pairs P points values n = good P [] (take n points) && same (take n values) (map (kept P) (take n points))
-
-unfoldable pub sound_kept : Pair → List ℕ → List ℕ → ℕ → Bool
-sound_kept P points values n = leb n (needed P) && zeros (drop n points) && zeros (drop n values) && kept_pairs P points values n
+unfoldable pub kept_pairs : Pair → List ℕ → List ℕ → Bool
+kept_pairs P points values = good P [] points && same values (map (kept P) points)

@@ -25,7 +25,7 @@ pub struct Short {
     pub stop: Stop,
 }
 
-// A record's kind, and what arrived of its body.
+// A record's kind, which is the byte that arrived and may be no kind at all, and what arrived of its body.
 #[derive(Drop)]
 pub struct Record {
     pub kind: u8,
@@ -65,6 +65,7 @@ fn fill<R: Read>(input: &mut R, body: &mut [u8]) -> Result<(), Short>
 {
     let need = body.len();
     let mut count = 0;
+    // a read says itself how far the count goes on
     while count < need {
         match read_some(input, &mut body[count..need]) {
             Ok(more) => count += more,

@@ -1,25 +1,16 @@
--- `checks::no_lead`: the entries of the leading row that are passed are zero.
-use Prim.Native.Nat.{◌+◌}
-use native.Mathlib.Nat.{mul-le-mul}
-use native.Mathlib.Omega.{arith}
-use mathlib.Core.Path.{sym}
-use Rattle.checks.proofs.Tests.{zeros_none, zeros_more, zeros_found, zeros_all}
+-- `checks::no_lead`: whether the entries of the leading row are all zero.
+use Rattle.std.proofs.Common.{rules, refl, tests, arith, ◌≡◌, ◌≢◌, ◌+◌, ◌*◌, ◌≤◌, length}
+use Rattle.std.proofs.lemmas.Iterator.{YieldsList-from_slice, cases_from_all}
+use Rattle.checks.proofs.Tests.{lead_end, leading}
 use Rattle.checks.proofs.no_lead.Goals as goal
 
-pub overflow_mul-i : goal.overflow_mul-i
-overflow_mul-i c = omega (arith, mul-le-mul {n₁ = c.args.m} {m₁ = c.args.e + 1} {n₂ = 16} {m₂ = 17} (omega arith) (omega arith))
+pub slice_bounds-iter-count : goal.slice_bounds-iter-count
+slice_bounds-iter-count c = omega (arith, lead_end c.args.m c.args.e)
 
-pub overflow_cast-i : goal.overflow_cast-i
-overflow_cast-i c = omega (arith, mul-le-mul {n₁ = c.args.m} {m₁ = c.args.e + 1} {n₂ = 16} {m₂ = 17} (omega arith) (omega arith))
-
-pub loop-i-init : goal.loop-i-init
-loop-i-init c = zeros_none _ _ _
-
-pub returns-then-t-i-ne0 : goal.returns-then-t-i-ne0
-returns-then-t-i-ne0 c = sym (zeros_found c.loop-i.invariant (omega arith) c.if-t-i-ne0.true)
-
-pub loop-i-preserved : goal.loop-i-preserved
-loop-i-preserved c = zeros_more c.loop-i.invariant (omega arith) c.if-t-i-ne0.false
+pub slice_bounds-iter-start : goal.slice_bounds-iter-start
+slice_bounds-iter-start c = let within : c.args.m * (c.args.e + 1) ≤ length c.args.t.now = omega (arith, lead_end c.args.m c.args.e) in search rules
 
 pub returns : goal.returns
-returns c = sym (zeros_all c.loop-i.invariant (omega arith))
+returns c =
+    leading _ _ _ c.requires.t_len c.all.result _ refl
+    (cases_from_all _ _ _ (λ x. x ≡ 0) (λ x. x ≢ 0) c.all.ensures.ran (YieldsList-from_slice _ c.iter.ensures.rest) (λ x q k. search (rules, tests)) (λ x q k. search (rules, tests)))

@@ -1,14 +1,11 @@
--- `kernel::offer` meets its contract: the record is tested once, and a sound one is offered the point.
-use mathlib.Core.Path.{sym, ◌∙◌}
-use Rattle.job.specs.SoundLaws.{standing_test}
-use Rattle.kernel.specs.JobLaws.{offer_unsound, offer_done}
+-- `kernel::offer`: the record is tested once, and a sound one is offered the point.
+use Rattle.std.proofs.Common.{◌∙◌}
+use Rattle.checks.specs.Outcome.{number_of_bounds}
+use Rattle.kernel.specs.JobLaws.{offer_refused, offer_taken}
 use Rattle.kernel.proofs.offer.Goals as goal
 
-pub returns-then-not-is_sound : goal.returns-then-not-is_sound
-returns-then-not-is_sound c = offer_unsound _ _ (sym c.is_sound.ensures ∙ c.if-not-is_sound.true)
+pub returns-in-Ok : goal.returns-in-Ok
+returns-in-Ok c = offer_taken _ _ c.in-Ok.ensures.number c.in-Ok.ensures.ok (c.answer-number.ensures ∙ c.offer.ensures.number) c.offer.ensures.job
 
-pub offer_sound-requires : goal.offer_sound-requires
-offer_sound-requires c = (standing_test _).0 (sym c.is_sound.ensures ∙ c.if-not-is_sound.false)
-
-pub returns : goal.returns
-returns c = offer_done _ _ _ (sym c.is_sound.ensures ∙ c.if-not-is_sound.false) c.offer_sound.ensures.number_value c.offer_sound.ensures.job_value
+pub returns-in-Err : goal.returns-in-Err
+returns-in-Err c = rw c.refused.ensures (offer_refused _ _ _ c.in-Err.ensures.number (number_of_bounds _).0)

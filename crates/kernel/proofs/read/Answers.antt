@@ -1,14 +1,9 @@
--- `kernel::read` meets its contract: the record is tested once, and a sound one is read.
-use mathlib.Core.Path.{sym, ◌∙◌}
-use Rattle.job.specs.SoundLaws.{standing_test}
-use Rattle.kernel.specs.JobLaws.{read_unsound, read_done}
+-- `kernel::read`: the record is tested once, and a sound one is read.
+use Rattle.kernel.specs.JobLaws.{read_refused, read_taken}
 use Rattle.kernel.proofs.read.Goals as goal
 
-pub returns-then-not-is_sound : goal.returns-then-not-is_sound
-returns-then-not-is_sound c = read_unsound _ _ (sym c.is_sound.ensures ∙ c.if-not-is_sound.true)
+pub returns-in-Ok : goal.returns-in-Ok
+returns-in-Ok c = rw c.answer.ensures (read_taken _ _ c.in-Ok.ensures.number c.in-Ok.ensures.ok c.read.ensures)
 
-pub read_sound-requires : goal.read_sound-requires
-read_sound-requires c = (standing_test _).0 (sym c.is_sound.ensures ∙ c.if-not-is_sound.false)
-
-pub returns : goal.returns
-returns c = read_done _ _ _ _ (sym c.is_sound.ensures ∙ c.if-not-is_sound.false) c.read_sound.ensures
+pub returns-in-Err : goal.returns-in-Err
+returns-in-Err c = rw c.answer-in-Err.ensures (read_refused _ _ _ c.in-Err.ensures.number)

@@ -1,11 +1,12 @@
--- `plain::determinant` and `plain::term`, which call each other. With `left` rows left the determinant asks for terms at
--- the same `left`, and a term for a determinant with one row less: 2 * left falls, with one more for the determinant.
-use native.Mathlib.Omega.{arith}
-use Rattle.plain.proofs.Terms.{summed_first, summed-next, summed-last, det_none, val-below, remainder-below, fewer_columns, term_even, term_odd}
+-- `plain::determinant` and `plain::term`, which call each other. The determinant asks for terms in the same columns, and a
+-- term for a determinant in one column less: twice the number of columns falls, with one more for the determinant.
+use Rattle.std.proofs.Common.{arith, rules}
+use Rattle.plain.proofs.Columns.{one_fewer, fewer_columns}
+use Rattle.plain.proofs.Terms.{summed_first, summed-next, summed-last, det_none, val-below, term_even, term_odd}
 use Rattle.plain.proofs.+determinant_term.Goals as goal
 
-pub determinant-returns-then-left-eq0 : goal.determinant-returns-then-left-eq0
-determinant-returns-then-left-eq0 t c = det_none _ (omega arith) _ _ c.if-left-eq0.true
+pub determinant-returns-then-is_empty : goal.determinant-returns-then-is_empty
+determinant-returns-then-is_empty t c = det_none _ (omega arith) _ _ (search rules)
 
 pub determinant-loop-j-init : goal.determinant-loop-j-init
 determinant-loop-j-init t c = summed_first _ _ _
@@ -21,23 +22,17 @@ determinant-loop-j-preserved t c =
     summed-next _ (omega arith) _ _ _ c.loop-j.invariant (omega arith) c.term.ensures c.add-sum.ensures
 
 pub determinant-returns : goal.determinant-returns
-determinant-returns t c = summed-last _ _ _ _ c.loop-j.invariant c.if-left-eq0.false (omega arith)
+determinant-returns t c = summed-last _ _ _ _ c.loop-j.invariant (search rules) (omega arith)
 
 pub term-determinant-minor-requires : goal.term-determinant-minor-requires
-term-determinant-minor-requires t c = (
-  omega arith,
-  (omega arith, (omega arith, fewer_columns c.args.cols c.without.result c.args.j c.args.left (omega arith) (omega arith) c.without.ensures c.requires.columns)),
-)
-
-pub term-sub-requires : goal.term-sub-requires
-term-sub-requires t c = record { a_lt_p = omega arith; b_lt_p = remainder-below _ (omega arith) _ c.mul-product.ensures }
+term-determinant-minor-requires t c =
+    let fewer = one_fewer c.args.cols.now c.args.j c.requires.j_below c.without.ensures in
+    (omega arith, (omega arith, (omega arith, fewer_columns _ _ c.requires.j_below c.without.ensures c.requires.columns)))
 
 pub term-returns-then-j-eq0 : goal.term-returns-then-j-eq0
 term-returns-then-j-eq0 t c =
-    term_even _ (omega arith) _ _ _ _ _ _ (omega arith)
-    c.without.ensures _ _ c.determinant-minor.ensures c.mul-product.ensures c.if-j-eq0.true
+    term_even _ (omega arith) _ _ _ _ _ c.requires.j_below c.without.ensures _ _ c.determinant-minor.ensures c.mul-product.ensures (omega arith)
 
 pub term-returns-else-j-eq0 : goal.term-returns-else-j-eq0
 term-returns-else-j-eq0 t c =
-    term_odd _ (omega arith) _ _ _ _ _ _ (omega arith)
-    c.without.ensures _ _ c.determinant-minor.ensures c.mul-product.ensures c.if-j-eq0.false c.sub.ensures
+    term_odd _ (omega arith) _ _ _ _ _ c.requires.j_below c.without.ensures _ _ c.determinant-minor.ensures c.mul-product.ensures c.if-j-eq0.false c.sub.ensures

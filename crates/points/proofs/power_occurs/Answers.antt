@@ -1,17 +1,10 @@
 -- `points::power_occurs`: each turn looks at one row.
 use native.Mathlib.Omega.{arith}
-use borrow.Author.Count.{below_more}
 use Rattle.points.proofs.Rows.{occurs_here, occurs_nowhere}
 use Rattle.points.proofs.power_occurs.Goals as goal
-
-pub loop-i-init : goal.loop-i-init
-loop-i-init c = (omega arith, λ k l. absurd (omega arith))
 
 pub returns-then-t-i-ne0 : goal.returns-then-t-i-ne0
 returns-then-t-i-ne0 c = occurs_here _ _ _ (omega arith) _ (omega arith) c.if-t-i-ne0.true
 
-pub loop-i-preserved : goal.loop-i-preserved
-loop-i-preserved c = (omega arith, below_more _ _ c.loop-i.invariant.1 c.if-t-i-ne0.false)
-
 pub returns : goal.returns
-returns c = occurs_nowhere _ _ _ (omega arith) (λ k l. c.loop-i.invariant.1 k (omega arith))
+returns c = occurs_nowhere _ _ _ (omega arith) (λ k l. c.loop-i.invariant k (omega arith))

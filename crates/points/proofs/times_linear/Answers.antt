@@ -2,24 +2,20 @@
 -- still those that came in.
 use native.Mathlib.Omega.{arith}
 use mathlib.Core.Path.{refl}
-use Rattle.points.proofs.Stores.{stored_none, stored_down, stored_list}
+use Rattle.points.proofs.Stores.{stored_down, stored_all}
 use Rattle.points.proofs.Linear.{linear_above, linear_first}
 use Rattle.points.proofs.times_linear.Goals as goal
-
-pub loop-k-init : goal.loop-k-init
-loop-k-init c = (omega arith, omega arith, stored_none _ _ _)
 
 pub loop-k-preserved : goal.loop-k-preserved
 loop-k-preserved c = (
   omega arith,
-  omega arith,
-  stored_down _ _ c.loop-k.invariant.2 (omega arith) (omega arith) (omega arith)
-      (linear_above _ _ c.loop-k.invariant.2 _ (omega arith) (omega arith) c.mul_sub.ensures),
+  stored_down _ _ c.loop-k.invariant.1 (omega arith) (omega arith) (omega arith)
+      (linear_above _ _ c.loop-k.invariant.1 _ (omega arith) (omega arith) c.mul_sub.ensures),
 )
 
 pub returns : goal.returns
 returns c =
-    stored_list _ _
-    (stored_down _ 0 c.loop-k.invariant.2 (omega arith) (omega arith) (omega arith)
-    (linear_first _ _ c.loop-k.invariant.2 (omega arith) c.mul_sub-2.ensures))
-    refl (omega arith)
+    stored_all _
+    (stored_down _ 0 c.loop-k.invariant.1 (omega arith) (omega arith) (omega arith)
+    (linear_first _ _ c.loop-k.invariant.1 (omega arith) c.mul_sub-2.ensures))
+    refl

@@ -1,17 +1,11 @@
 -- `points::true_degree`: each turn rules out one power, from the top down.
 use native.Mathlib.Omega.{arith}
 use mathlib.Core.Path.{◌∙◌, sym}
-use Rattle.points.proofs.Searches.{above_first, above-next, above_found, above_none}
+use Rattle.points.proofs.Searches.{above_found, above_none}
 use Rattle.points.proofs.true_degree.Goals as goal
-
-pub loop-j-init : goal.loop-j-init
-loop-j-init c = above_first _ _
 
 pub returns-then-power_occurs : goal.returns-then-power_occurs
 returns-then-power_occurs c = above_found _ _ c.loop-j.invariant (sym c.power_occurs.ensures ∙ c.if-power_occurs.true)
-
-pub loop-j-preserved : goal.loop-j-preserved
-loop-j-preserved c = above-next _ _ c.loop-j.invariant (omega arith) (sym c.power_occurs.ensures ∙ c.if-power_occurs.false)
 
 pub returns : goal.returns
 returns c = above_none _ _ c.loop-j.invariant (omega arith)

@@ -1,13 +1,11 @@
--- `points::value_at`: each turn is one step of Horner's rule.
-use native.Mathlib.Omega.{arith}
-use Rattle.points.proofs.Horner.{horner_first, horner-next, horner-last}
+-- `points::value_at`: the fold is Horner's rule.
+use Rattle.std.proofs.Common.{rules, ◌≡◌, ◌+◌, ◌*◌, ◌%◌, reverse, ◌∙◌}
+use Rattle.std.proofs.iter.runs.Made.{chains}
+use Rattle.std.specs.List.{fold}
+use Rattle.points.proofs.Horner.{horner}
 use Rattle.points.proofs.value_at.Goals as goal
 
-pub loop-k-init : goal.loop-k-init
-loop-k-init c = horner_first _ _ _ _ c.requires.p_nonzero
-
-pub loop-k-preserved : goal.loop-k-preserved
-loop-k-preserved c = horner-next _ _ _ _ c.loop-k.invariant (omega arith) c.mul_add-r.ensures
-
 pub returns : goal.returns
-returns c = horner-last _ _ _ _ c.loop-k.invariant (omega arith)
+returns c =
+    let down : c.fold.result ≡ fold (λ r x. (r * c.args.a + x) % c.args.p) 0 (reverse c.args.coefficients.now) = search (rules, chains) in
+    down ∙ horner c.args.p c.args.a c.requires c.args.coefficients.now

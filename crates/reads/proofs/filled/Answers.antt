@@ -1,37 +1,23 @@
 -- `reads::filled`: each turn offers the next number.
-use native.Mathlib.Omega.{arith}
-use Rattle.reads.proofs.Filling.{filling_first, filling_standing, filling-below, filling-next, filling-last}
+use Rattle.std.proofs.Common.{arith}
+use Rattle.job.specs.SoundLaws.{standing_test}
+use Rattle.reads.proofs.Filling.{filling_first, filling_few, filling_full, filling-next, filling-last}
 use Rattle.reads.proofs.filled.Goals as goal
 
-pub loop-j-init : goal.loop-j-init
-loop-j-init c = filling_first _ c.requires.standing c.requires.count_value
+pub loop-a-init : goal.loop-a-init
+loop-a-init c = filling_first _ ((standing_test _).0 c.args.fresh.sound) c.requires
 
-pub offer_sound-answer-requires : goal.offer_sound-answer-requires
-offer_sound-answer-requires c =
-    filling_standing _ c.requires.standing c.requires.count_value _ _ c.loop-j.invariant
+pub returns-then-j-needed : goal.returns-then-j-needed
+returns-then-j-needed c =
+    filling-last _ ((standing_test _).0 c.args.fresh.sound) c.requires _ _ c.loop-a.invariant (omega (arith, c.needed-needed.ensures))
 
--- in a turn the number offered is below the modulus
-pub overflow_add-a : goal.overflow_add-a
-overflow_add-a c =
-    omega (
-      arith,
-      filling-below _ c.requires.standing c.requires.count_value _ _ c.loop-j.invariant
-          (rw c.needed_for-needed.ensures at c.loop-j-test.true),
-    )
-
-pub loop-j-smaller : goal.loop-j-smaller
-loop-j-smaller c =
-    omega (
-      arith,
-      filling-below _ c.requires.standing c.requires.count_value _ _ c.loop-j.invariant
-          (rw c.needed_for-needed.ensures at c.loop-j-test.true),
-    )
-
-pub loop-j-preserved : goal.loop-j-preserved
-loop-j-preserved c =
-    filling-next _ c.requires.standing c.requires.count_value _ _ c.loop-j.invariant
-    (rw c.needed_for-needed.ensures at c.loop-j-test.true) _ c.offer_sound-answer.ensures.job_value
+pub loop-a-preserved : goal.loop-a-preserved
+loop-a-preserved c =
+    let s = (standing_test _).0 c.args.fresh.sound in
+    filling-next _ s c.requires _ _ c.loop-a.invariant
+    (omega (arith, filling_few _ s c.requires _ _ c.loop-a.invariant, c.needed-needed.ensures, c.if-j-needed.false)) _ c.offer.ensures.job
 
 pub returns : goal.returns
 returns c =
-    filling-last _ c.requires.standing c.requires.count_value _ _ c.loop-j.invariant (rw c.needed_for-needed.ensures at c.loop-j-test.false)
+    let s = (standing_test _).0 c.args.fresh.sound in
+    filling-last _ s c.requires _ _ c.loop-a.invariant (filling_full _ s c.requires _ _ c.loop-a.invariant (omega arith))

@@ -1,10 +1,6 @@
 -- `reads::filled`: each turn offers the next number.
-use Prim.Native.Nat.{◌-◌}
 use Rattle.reads.proofs.Filling.{Filling}
 use Rattle.reads.proofs.filled.Given as goal
 
-abbrev pub invariant-loop-j : goal.invariant-loop-j
-invariant-loop-j l = Filling l.initial.j l.a l.j
-
-abbrev pub decreases-loop-j : goal.decreases-loop-j
-decreases-loop-j l = l.initial.j.p - l.a
+abbrev pub invariant-loop-a : goal.invariant-loop-a
+invariant-loop-a l = Filling l.fn.fresh.job l.a l.j.job

@@ -1,8 +1,5 @@
 -- `rows::divisor`: each answer is the front of its row.
-use Prim.Native.Nat.{◌<◌, ◌≤◌}
-use native.Mathlib.Omega.{arith}
-use mathlib.Core.Path.{refl, sym, ◌∙◌}
-use lib.ListN.{length}
+use Rattle.std.proofs.Common.{◌<◌, ◌≤◌, arith, length, refl, sym, ◌∙◌}
 use Rattle.euclid.specs.Row.{trim}
 use Rattle.rows.specs.Which.{first?_yes, first?_no, lower_first, lower_second}
 use Rattle.rows.proofs.Trim.{trim-front, trim-front-length}
@@ -16,11 +13,10 @@ returns-then-m-n c =
     let args = c.args in
     let a = args.a.now in
     let b = args.b.now in
-    let first = c.true_length-m.ensures in
     let less : length (trim a) < length (trim b) = omega arith in
     record {
-      result_value = trim-front a first ∙ sym (lower_first a b less);
-      ref_ptr_value = rw (first?_yes a b less) refl;
+      stretch = trim-front a c.true_length-m.ensures ∙ sym (lower_first a b less);
+      own = rw (first?_yes a b less) refl;
     }
 
 pub slice_bounds-result-end-2 : goal.slice_bounds-result-end-2
@@ -33,6 +29,6 @@ returns c =
     let b = args.b.now in
     let most : length (trim b) ≤ length (trim a) = omega arith in
     record {
-      result_value = trim-front b c.true_length-n.ensures ∙ sym (lower_second a b most);
-      ref_ptr_value = rw (first?_no a b most) refl;
+      stretch = trim-front b c.true_length-n.ensures ∙ sym (lower_second a b most);
+      own = rw (first?_no a b most) refl;
     }

@@ -4,6 +4,3 @@ use Rattle.rows.proofs.reduce.Given as goal
 
 abbrev pub invariant-loop-k : goal.invariant-loop-k
 invariant-loop-k l = Work l.p l.d l.initial.row l.b l.row l.k
-
-abbrev pub decreases-loop-k : goal.decreases-loop-k
-decreases-loop-k l = l.k

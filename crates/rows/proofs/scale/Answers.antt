@@ -1,13 +1,10 @@
--- `rows::scale`: each turn multiplies one entry.
-use native.Mathlib.Omega.{arith}
-use Rattle.rows.proofs.Scaled.{scaled_first, scaled_more, scaled-last}
+-- `rows::scale`: the entries passed are multiplied.
+use Rattle.std.proofs.Common.{ℕ, ◌*◌, ◌%◌, arith, set, ap, ◌∙◌}
+use Rattle.std.proofs.lemmas.List.{get_or_default}
+use Rattle.std.proofs.lemmas.List.Edits.{map_over_more}
 use Rattle.rows.proofs.scale.Goals as goal
 
-pub loop-i-init : goal.loop-i-init
-loop-i-init c = scaled_first _
-
-pub loop-i-preserved : goal.loop-i-preserved
-loop-i-preserved c = scaled_more _ c.loop-i.invariant (omega arith) c.mul.ensures
-
-pub returns : goal.returns
-returns c = scaled-last _ c.loop-i.invariant (omega arith)
+pub loop-x-preserved : goal.loop-x-preserved
+loop-x-preserved c =
+    ap (set c.loop-x.r c.loop-x.x-index) c.mul.ensures
+    ∙ map_over_more (λ (x : ℕ). x * c.args.f % c.args.p) _ _ _ _ (omega arith) c.loop-x.invariant (get_or_default c.loop-x.r c.loop-x.x-index 0 _ (omega arith))

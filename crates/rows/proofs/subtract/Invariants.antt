@@ -1,10 +1,7 @@
--- `rows::subtract`: each turn sets one place.
-use Prim.Native.Nat.{◌-◌}
-use Rattle.rows.proofs.Places.{Partly}
+-- `rows::subtract`: the places passed are worked out.
+use Rattle.std.proofs.Common.{◌≡◌, take}
+use Rattle.euclid.specs.Division.{less}
 use Rattle.rows.proofs.subtract.Given as goal
 
 abbrev pub invariant-loop-i : goal.invariant-loop-i
-invariant-loop-i l = Partly l.p l.q l.d l.initial.part l.b l.part l.i
-
-abbrev pub decreases-loop-i : goal.decreases-loop-i
-decreases-loop-i l = l.d - l.i
+invariant-loop-i l = l.part ≡ less l.p l.q l.initial.part (take l.i l.b)

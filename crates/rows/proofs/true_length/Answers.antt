@@ -1,16 +1,10 @@
--- `rows::true_length`: the row is scanned from its end.
-use native.Mathlib.Omega.{arith}
-use Rattle.rows.proofs.Trim.{trimmed_first, trimmed-zero, trimmed-some, trimmed_none}
+-- `rows::true_length`: by the last entry that is not 0.
+use Rattle.std.proofs.Common.{rules}
+use Rattle.rows.proofs.Trim.{trim-last, trim_zeros}
 use Rattle.rows.proofs.true_length.Goals as goal
 
-pub loop-k-init : goal.loop-k-init
-loop-k-init c = trimmed_first _
+pub returns-in-Some : goal.returns-in-Some
+returns-in-Some c = trim-last c.args.r.now c.in-Some.last (search rules) (search rules) (search rules)
 
-pub returns-then-r-k-ne0 : goal.returns-then-r-k-ne0
-returns-then-r-k-ne0 c = trimmed-some c.loop-k.invariant (omega arith) c.if-r-k-ne0.true
-
-pub loop-k-preserved : goal.loop-k-preserved
-loop-k-preserved c = trimmed-zero c.loop-k.invariant (omega arith) c.if-r-k-ne0.false
-
-pub returns : goal.returns
-returns c = trimmed_none c.loop-k.invariant (omega arith)
+pub returns-in-None : goal.returns-in-None
+returns-in-None c = trim_zeros c.args.r.now (search rules)

@@ -1,17 +1,13 @@
--- `sounding::zeros_from`: the entries passed are 0, so those from i on decide.
-use native.Mathlib.Omega.{arith}
-use mathlib.Core.Path.{sym}
-use Rattle.sounding.proofs.Zeros.{clear_none, clear_more, clear_broken, clear_all}
+-- `sounding::zeros_from`: the entries after the first k, each tested.
+use Rattle.std.proofs.Common.{rules, tests, eqb, sym, ◌∙◌}
+use Rattle.std.proofs.lemmas.Iterator.{YieldsList-from_slice}
+use Rattle.std.proofs.lemmas.Iterator.Adapters.{YieldsList-from_skip}
+use Rattle.std.proofs.lemmas.Iterator.Search.{all_from_yields_List}
+use Rattle.sounding.proofs.Zeros.{zeros_all}
 use Rattle.sounding.proofs.zeros_from.Goals as goal
 
-pub loop-i-init : goal.loop-i-init
-loop-i-init c = clear_none _ _
-
-pub returns-then-t-i-ne0 : goal.returns-then-t-i-ne0
-returns-then-t-i-ne0 c = sym (clear_broken c.loop-i.invariant (omega arith) c.if-t-i-ne0.true)
-
-pub loop-i-preserved : goal.loop-i-preserved
-loop-i-preserved c = clear_more c.loop-i.invariant (omega arith) c.if-t-i-ne0.false
-
 pub returns : goal.returns
-returns c = sym (clear_all c.loop-i.invariant (omega arith))
+returns c =
+    all_from_yields_List (λ x. eqb x 0) _ _ _ c.all.ensures.ran
+    (YieldsList-from_skip c.args.k (YieldsList-from_slice c.args.t.now cc) cc) (λ x b q k. search (rules, tests))
+    ∙ sym (zeros_all _)

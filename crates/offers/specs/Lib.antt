@@ -1,0 +1,4 @@
+-- What the contracts of this crate cite.
+pub mod Answer
+pub mod Lent
+pub mod Among
