@@ -69,14 +69,14 @@ impl Run {
     }
 
     // A record, or what arrived of it before the input ended: its line, and whether the run stops after it.
-    fn step(&mut self, record: &Record, line: &mut Text) -> bool
+    fn step(&mut self, part: &Record, line: &mut Text) -> bool
         requires { self.old.offset + 8 < 2 ^ 64 }
-        ensures steps { Steps (stepped self.old.deck.state record.now.kind record.now.body.items self.old.offset)
+        ensures steps { Steps (stepped self.old.deck.state part.now.kind part.now.body.items self.old.offset)
             self.new.deck.state result line.new.bytes }
-        ensures offset { self.new.offset ≡ self.old.offset + (1 + body_length record.now.kind) }
+        ensures offset { self.new.offset ≡ self.old.offset + (1 + body_length part.now.kind) }
     {
-        let stops = self.deck.step(record.kind, &record.body, self.offset, line);
-        self.offset += 1 + body_length(record.kind) as u64;
+        let stops = self.deck.step(part.kind, &part.body, self.offset, line);
+        self.offset += 1 + body_length(part.kind) as u64;
         stops
     }
 
