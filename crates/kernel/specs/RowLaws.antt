@@ -1,9 +1,9 @@
 -- How the row calls come to their results: a refusal, or the work done.
 --
---   row_refused, row_given, row_done the row resultant: a refusal, what the work asks, the work done
---   plain_refused ..                 the plain determinant
---   division_refused ..              division in the work row
---   row_laws                         all of these, for the calls
+--   row_refused, row_given, row_done    the row resultant: a refusal, what the work asks, the work done
+--   plain_refused ..                    the plain determinant
+--   division_refused ..                 division in the work row
+--   row_laws                            all of these, for the calls
 use Rattle.std.specs.Prelude.{ℕ, ◌+◌, ◌≤◌, ◌<◌, Bool, List, ◌++◌, ◌≡◌, refl, ◌≢◌, length}
 use Rattle.std.proofs.Common.{arith, ◌∙◌, eq-eqb, ne_eqb}
 use Rattle.std.proofs.Math.Path.{sym, ap}

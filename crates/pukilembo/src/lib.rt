@@ -39,6 +39,8 @@ pub extern "C" fn pukilembo_divide(p: u32, row: &mut [u32], b: &[u32]) -> Divisi
     kernel::divide(p, row, b)
 }
 
+// C is told which row and how many of its entries, and no pointer: each row's true length is that of the divisor between the
+// row and itself, and the shorter one divides, the second on a tie.
 #[unsafe(no_mangle)]
 pub extern "C" fn pukilembo_divisor(a: &[u32], b: &[u32]) -> Stretch
     ensures { (result.side ≡ pick (first? a.now b.now) 0 1) × (result.length ≡ length (lower a.now b.now)) }

@@ -8,11 +8,10 @@
 --   prime_no_divisor    no d between 2 and p divides a prime p, however large d is
 --   prime?-right        prime? says true of primes only
 --   prime?_all          prime? says true of every prime
---   prime_dec           Prime p is decided
 use Rattle.std.specs.Prelude.{ℕ, zero, suc, ◌+◌, ◌*◌, ◌%◌, ◌/◌, ◌^◌, ◌≤◌, ◌<◌, ◌≡◌, refl, Bool, true, false, ◌⊎◌}
 use Rattle.std.specs.Coded.{Π_prop, →_prop}
 use Rattle.std.proofs.Math.Nat.{div-add-mod, mul-mod_left, lt_of_mul-lt-mul_left}
-use Rattle.std.proofs.Common.{mul-le-mul, mul-le-mul_right, le-mul_of_pos_right, le_refl, le_trans, eq-or-lt_of_le, arith, sym, ap, ◌∙◌, true≢false, inl, inr}
+use Rattle.std.proofs.Common.{mul-le-mul, mul-le-mul_right, le-mul_of_pos_right, le_refl, le_trans, eq-or-lt_of_le, arith, sym, ap, ◌∙◌, inl, inr}
 use Rattle.std.proofs.Math.Decide.{dec_le, ℕ_discrete}
 use Rattle.std.proofs.lemmas.Bool.{false≢true}
 
@@ -104,13 +103,6 @@ trials_all (suc k) d p two prime =
 pub prime?_all : (p : ℕ) → Prime p → prime? p ≡ true
 unfolding prime?
 prime?_all p = trials_all p 2 p (le_refl 2)
-
-unfoldable pub prime_dec : (p : ℕ) → Dec (Prime p)
-prime_dec p = by_test (prime? p) refl
-  where
-    by_test : (b : Bool) → prime? p ≡ b → Dec (Prime p)
-    by_test true e = yes (prime?-right p e)
-    by_test false e = no (λ prime. true≢false (sym (prime?_all p prime) ∙ e))
 
 -- the test on numbers: 0 and 1 pass too
 prime?_examples : (prime? 0 ≡ true) × (prime? 1 ≡ true) × (prime? 2 ≡ true) × (prime? 4 ≡ false) × (prime? 9 ≡ false) × (prime? 65537 ≡ true)

@@ -7,10 +7,8 @@
 --   residues p      the ring of them: sums, products and negatives by remainder
 --   val p x         the number that the residue x is
 --   res p n         the residue of the number n
---   eq? p x y       equality of residues, decided
 use Rattle.std.specs.Prelude.{ℕ, zero, suc, ◌+◌, ◌*◌, ◌-◌, ◌%◌, ◌≤◌, ◌<◌, ◌≢◌, ◌≡◌}
 use Rattle.std.proofs.Math.Bridge.{le_prop}
-use Rattle.std.proofs.Math.Decide.{ℕ_discrete}
 use Rattle.std.proofs.Common.{add_assoc, add_comm, add-zero, add-sub_of_le, mul_assoc, mul_comm, mul-one, mul-add, mod-lt, mod-eq_of_lt, zero-lt-suc, le_of_lt, sub-add_cancel, arith, ◌∙◌}
 use Rattle.std.proofs.Math.Nat.{mod-mod, mod_self, mod-add-mod, add-mod-mod, add-mod, zero-mod}
 use mathlib.Core.HLevel.{Σ_prop_path}
@@ -121,14 +119,6 @@ module _ (p : ℕ) where
   pub val_inj : (x y : C) → val p x ≡ val p y → x ≡ y
   unfolding residues val
   val_inj x y = number_path p x y
-
-  unfoldable pub eq? : (x y : C) → Dec (x ≡ y)
-  unfolding ℕ_discrete
-  eq? x y = by_number (ℕ_discrete (val p x) (val p y))
-    where
-      by_number : Dec (val p x ≡ val p y) → Dec (x ≡ y)
-      by_number (yes e) = yes (val_inj x y e)
-      by_number (no f) = no (λ (e : x ≡ y). f (ap (val p) e))
 
   pub res-val : (x : C) → res p (val p x) ≡ x
   unfolding residues val res cut
