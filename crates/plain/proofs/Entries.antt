@@ -17,7 +17,7 @@ use Rattle.std.specs.Array.{IsFromFnResult, IsFromFnResultFrom}
 use Rattle.std.specs.Fn.{Called}
 use denote.Param.Members.{Mut}
 use Rattle.ring.specs.Ring.{Ring}
-use Rattle.ring.specs.Matrix.{stack_low, stack_high}
+use Rattle.ring.specs.MatrixLaws.{stack_low, stack_high}
 use Rattle.ring.specs.Det.{det}
 use Rattle.ring.specs.DetLaws.{det_ext}
 use Rattle.residue.specs.Residue.{residues, res, val, res-zero}
