@@ -8,7 +8,7 @@ ghost use Rattle.decks.specs.Kind.{kind_number};
 ghost use Rattle.decks.specs.State.{Fit};
 ghost use Rattle.decks.specs.Step.{settled, Opens, Steps};
 ghost use Rattle.job.specs.Calls.{offered};
-ghost use Rattle.residue.specs.Prime.{Prime-prop};
+ghost use Rattle.residue.specs.PrimeLaws.{Prime-prop};
 ghost use Rattle.std.proofs.Props.{props};
 
 use crate::records::{Kind, number4};

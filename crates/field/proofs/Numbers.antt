@@ -9,7 +9,8 @@ use native.Mathlib.Omega.{arith}
 use mathlib.Core.Path.{◌≡◌, refl, sym, ap, ◌∙◌}
 use Rattle.ring.specs.RingLaws.{neg-⊗}
 use Rattle.residue.specs.Computed.{mul-sub-res}
-use Rattle.residue.specs.Residue.{residues, res, res-+, res-*, res-neg, res-mod, path-res}
+use Rattle.residue.specs.Residue.{residues, res}
+use Rattle.residue.specs.ResidueLaws.{res-+, res-*, res-neg, res-mod, path-res}
 
 pub mod_once : {n p : ℕ} → p ≤ n → n < p + p → n % p ≡ n - p
 mod_once {n} {p} over less = mod-eq-sub-mod over ∙ mod-eq_of_lt (omega arith)

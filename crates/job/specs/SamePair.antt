@@ -15,7 +15,8 @@ use Rattle.std.proofs.Math.Path.{PathP, refl, ap, ap₂}
 use Rattle.std.proofs.Math.Dec.{leb}
 use Rattle.std.proofs.Math.ListN.{take}
 use Rattle.ring.specs.Ring.{Ring}
-use Rattle.residue.specs.Residue.{residues, res, val, res-zero}
+use Rattle.residue.specs.Residue.{residues, res, val}
+use Rattle.residue.specs.ResidueLaws.{res-zero}
 use Rattle.sylvester.specs.Sylvester.{resultant}
 use Rattle.polynomial.specs.Poly.{poly}
 use Rattle.polynomial.specs.Value.{value_more}

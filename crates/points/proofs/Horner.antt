@@ -10,7 +10,8 @@ use Rattle.std.proofs.lemmas.List.Sums.{fold-append}
 use Rattle.std.proofs.lemmas.List.{reverse-append, get_or-take}
 use Rattle.ring.specs.Ring.{Ring}
 use Rattle.ring.specs.Sum.{sum}
-use Rattle.residue.specs.Residue.{residues, res, val, res-val, val-res, val-𝟘, val-lt, res-+, res-*}
+use Rattle.residue.specs.Residue.{residues, res, val}
+use Rattle.residue.specs.ResidueLaws.{res-val, val-res, val-𝟘, val-lt, res-+, res-*}
 use Rattle.polynomial.specs.Value.{value, value_step, value_ext}
 use Rattle.points.specs.Step.{value_of}
 

@@ -22,7 +22,8 @@ use Rattle.std.proofs.Common.{length-take, length-take-le}
 use Rattle.ring.specs.RingLaws.{zero-⊕, zero-⊗, neg-⊗}
 use Rattle.residue.specs.Prime.{Prime}
 use Rattle.residue.specs.Computed.{difference-res, product-res, mul-sub-res, inverse-res}
-use Rattle.residue.specs.Residue.{residues, res, val, val_inj, val-lt, val-res_small, val-𝟘, val-𝟙, res-val, res-zero, res-mod, res-+, res-*}
+use Rattle.residue.specs.Residue.{residues, res, val}
+use Rattle.residue.specs.ResidueLaws.{val_inj, val-lt, val-res_small, val-𝟘, val-𝟙, res-val, res-zero, res-mod, res-+, res-*}
 use Rattle.residue.specs.Inverse.{inverse, inv}
 use Rattle.polynomial.specs.Convolution.{one}
 use Rattle.polynomial.specs.Value.{value, value_ext, value-enough}

@@ -6,7 +6,8 @@ use Rattle.ring.specs.Sum.{sum, alt}
 use Rattle.ring.specs.Det.{det, skip}
 use Rattle.ring.specs.Matrix.{stack}
 use Rattle.residue.specs.Prime.{prime?}
-use Rattle.residue.specs.Residue.{residues, res, val, cut, modulus}
+use Rattle.residue.specs.Residue.{residues, res, val}
+use Rattle.residue.specs.Cut.{cut, modulus}
 use Rattle.residue.specs.Inverse.{inverse, inv}
 use Rattle.polynomial.specs.Convolution.{conv, one}
 use Rattle.polynomial.specs.Poly.{plus, minus, nil}

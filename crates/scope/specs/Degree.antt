@@ -9,7 +9,8 @@ use Rattle.std.proofs.Common.{arith, sym, ap, ◌∙◌, subst, eqb-true}
 use Rattle.std.proofs.Math.Decide.{dec_lt}
 use Rattle.std.proofs.lemmas.Bool.{not-false}
 use Rattle.ring.specs.Ring.{Ring}
-use Rattle.residue.specs.Residue.{residues, res, res-val, res-zero}
+use Rattle.residue.specs.Residue.{residues, res}
+use Rattle.residue.specs.ResidueLaws.{res-val, res-zero}
 use Rattle.sylvester.specs.Sylvester.{resultant}
 use Rattle.sylvester.specs.Laws.{resultant_ext}
 use Rattle.polynomial.specs.Value.{AtMost, value, Takes, takes-value, value_more}
