@@ -11,8 +11,9 @@ use borrow.Author.Tests.{eq-eqb, le-ltb}
 use Rattle.residue.specs.Residue.{residues, res, val}
 use Rattle.residue.specs.ResidueLaws.{val-res_small}
 use Rattle.residue.specs.Inverse.{inv}
-use Rattle.polynomial.specs.Value.{value, value_ext}
-use Rattle.polynomial.specs.Interpolation.{newton-value}
+use Rattle.polynomial.specs.Value.{value}
+use Rattle.polynomial.specs.ValueLaws.{value_ext}
+use Rattle.polynomial.specs.InterpolationLaws.{newton-value}
 use Rattle.scope.specs.Pair.{Pair, determinant}
 use Rattle.scope.specs.Point.{kept, needed, row_a, row_b}
 use Rattle.scope.specs.Number.{point_number, ◌then◌}
