@@ -22,7 +22,8 @@ use Rattle.rows.specs.Given.{IsRow}
 use Rattle.checks.specs.Outcome.{number_of_bounds}
 use Rattle.checks.specs.Facts.{RowFacts, row-facts, plain-facts, DivisionFacts, division-facts}
 use Rattle.euclid.specs.Row.{trim}
-use Rattle.rows.specs.Which.{pick, first?, first?_yes, first?_no, lower, lower_first, lower_second}
+use Rattle.rows.specs.Which.{pick, first?, lower}
+use Rattle.rows.specs.WhichLaws.{first?_yes, first?_no, lower_first, lower_second}
 use Rattle.kernel.specs.Results.{RowResult, PlainResult, DivisionResult, DivisorResult}
 
 pub done : (r x : ℕ) → r ≡ 0 → only_done r x ≡ x
