@@ -3,7 +3,7 @@
 ghost use Rattle.std.specs.Prelude.{◌≤◌, ◌≡◌, [], length};
 ghost use Rattle.decks.specs.declared.Stage.TheVariants.{Opened};
 ghost use Rattle.decks.specs.Deck.{deck_number, fresh, point_line, read_line, with_job};
-ghost use Rattle.decks.specs.DeckLaws.{stepped};
+ghost use Rattle.decks.specs.Stepped.{stepped};
 ghost use Rattle.decks.specs.Kind.{kind_number};
 ghost use Rattle.decks.specs.State.{Fit};
 ghost use Rattle.decks.specs.Step.{settled, Opens, Steps};
