@@ -20,10 +20,9 @@ use Rattle.ring.specs.RingLaws.{zero-⊗, ⊗-zero, dist-⊗, neg-⊗, neg-zero,
 use Rattle.ring.specs.Sum.{sum, alt}
 use Rattle.ring.specs.SumLaws.{sum_ext, sum-zero, sum-⊕, sum-neg, scale-sum, sum-last, sum_more}
 use Rattle.ring.specs.Det.{det, minor, skip}
-use Rattle.polynomial.specs.Convolution.{conv, one}
+use Rattle.polynomial.specs.Convolution.{conv, one, plus, minus, nil}
 use Rattle.polynomial.specs.ConvolutionLaws.{conv-zero}
 use Rattle.polynomial.specs.Poly.{poly}
-use Rattle.polynomial.specs.Convolution.{plus, minus, nil}
 use Rattle.polynomial.specs.Value.{AtMost, value, Takes, total}
 
 -- a column of a minor is a column of the matrix
