@@ -491,8 +491,7 @@ played-deck xs ys held now r p fine =
     let unfailed = p.unread.0 (λ e. cc) in
     let run = turns-deck p.ran.arrivals p.ran.last p.ran.turns stopped unfailed in
     let whole = turns-whole p.ran.arrivals ys p.ran.last p.ran.turns stopped unfailed p.end in
-    let printed : now ≡ held ++ p.ran.last.text = p.printed (λ e. cc) in
-    (
+    let printed : now ≡ held ++ p.ran.last.text = p.printed (λ e. cc) in (
       delivered p.ran.arrivals,
       p.read,
       printed ∙ ap (λ (t : List ℕ). held ++ t) run.0,

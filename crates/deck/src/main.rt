@@ -43,7 +43,8 @@ impl fmt::Display for Failure {
     }
 }
 
-// Where a run stands: the state, and the place of the next record.
+// Where a run stands: the state, and the place of the next record. That 8 bytes more have room behind the place stays a clause
+// of a turn: the place grows with each one, and only the number of turns bounds it.
 #[derive(Clone, Copy)]
 struct Run {
     deck: FitDeck,
