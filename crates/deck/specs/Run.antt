@@ -19,7 +19,7 @@
 --   Unfailed xs          no read failed
 --   AtEnd left a         where the input ended in the arrival a, nothing of it is left
 --   AllAtEnd left xs     so it is for each of the arrivals xs
---   turns                how many turns a run has at most
+--   turn_limit           how many turns a run has at most
 --   Played i i' o o' r   the same, of what a reader had left before and after and what a writer held: the arrivals are the bytes
 --                        that the reader gave, and where one of them ended the input nothing of it is left; unless a write failed
 --                        the writer got the text printed; a failed read is told, and nothing else is told as one; and only a run
@@ -130,8 +130,8 @@ unfoldable pub AllAtEnd : Option (List ℕ) → List Arrival → Type 0
 AllAtEnd left [] = Unit {0}
 AllAtEnd left (a ∷ xs) = AtEnd left a × AllAtEnd left xs
 
-abbrev pub turns : ℕ
-turns = 2 ^ 61 - 1
+abbrev pub turn_limit : ℕ
+turn_limit = 2 ^ 61 - 1
 
 pub record Played (input input' output output' : Option (List ℕ)) (r : Ending) : Type 0 where
   pub ran : Ran r
@@ -139,4 +139,4 @@ pub record Played (input input' output output' : Option (List ℕ)) (r : Ending)
   pub end : AllAtEnd input' ran.arrivals
   pub printed : (r.result ≡ Err Write → ⊥) → Appends output output' ran.last.text
   pub unread : (r.result ≡ Err Read → ⊥) ↔ Unfailed ran.arrivals
-  pub spent : r.result ≡ Err Records → (ran.last.halt ≡ false) × (length ran.arrivals ≡ turns)
+  pub spent : r.result ≡ Err Records → (ran.last.halt ≡ false) × (length ran.arrivals ≡ turn_limit)

@@ -49,7 +49,7 @@ use Rattle.deck.specs.declared.Failure.{Failure}
 use Rattle.deck.specs.declared.Failure.TheVariants.{Read, Write, Records}
 use Rattle.deck.specs.declared.Run.{Run}
 use Rattle.deck.specs.declared.Ending.{Ending}
-use Rattle.deck.specs.Run.{told, past, Place, start, on, Turns, Unread, AtEnd, Goes, Takes, Turned, Ran, delivered, Unfailed, AllAtEnd, turns, Played}
+use Rattle.deck.specs.Run.{told, past, Place, start, on, Turns, Unread, AtEnd, Goes, Takes, Turned, Ran, delivered, Unfailed, AllAtEnd, turn_limit, Played}
 
 clash : {X : Type 0} {t : Bool} → t ≡ true → t ≡ false → X
 clash p q = let z : ◌≡◌ {A = ℕ} 0 1 = cc in absurd (omega arith)
@@ -345,7 +345,7 @@ module _ (run : Run) (i i' i'' o o' o'' : Option (List ℕ)) (turn : ℕ) (run' 
     spent = λ w. absurd (t.lasts (let same : f ≡ Records = cc in e ∙ ap Err same));
   }
 
-pub played_spent : (i i' o o' : Option (List ℕ)) (turn : ℕ) (run : Run) → Keeps i i' o o' turn run → turn ≡ turns
+pub played_spent : (i i' o o' : Option (List ℕ)) (turn : ℕ) (run : Run) → Keeps i i' o o' turn run → turn ≡ turn_limit
     → Played i i' o o' (record { state = run.deck.state; result = Err Records })
 unfolding ran_spent
 played_spent i i' o o' turn run k all = record {
