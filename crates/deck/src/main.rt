@@ -43,8 +43,8 @@ impl fmt::Display for Failure {
     }
 }
 
-// Where a run stands: the state, and the place of the next record. That 8 bytes more have room behind the place stays a clause
-// of a turn: the place grows with each one, and only the number of turns bounds it.
+// Where a run stands: the state, and the place of the next record. That 8 bytes more do not wrap the place stays a clause: the
+// place grows with each turn, and only the number of turns bounds it.
 #[derive(Clone, Copy)]
 struct Run {
     deck: FitDeck,
@@ -81,8 +81,8 @@ impl Run {
         stops
     }
 
-    // What arrived, taken: its line, and whether the run stops after it. A failed read is told, and changes nothing, the line
-    // neither.
+    // What arrived, taken: its line, and whether the run stops after it. A failed read is told, and changes nothing, not
+    // even the line.
     fn take(&mut self, arrival: &Arrival, line: &mut Text) -> Result<bool, Failure>
         requires arrives { Arrives arrival.now }
         requires offset { self.old.offset + 8 < 2 ^ 64 }

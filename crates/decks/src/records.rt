@@ -36,13 +36,13 @@ pub enum Refusal {
 }
 
 // The side of a place: the polynomial that it is of.
-#[derive(Clone, Copy, PartialEq, Eq)]
+#[derive(Clone, Copy)]
 enum Side {
     A,
     B,
 }
 
-// The kind with this number, where there is one.
+// The kind with this number, or that there is none.
 impl TryFrom<u8> for Kind {
     type Error = Refusal;
 
