@@ -209,8 +209,8 @@ fn next_point(p: Modulus, x: u32, v: u32, t: &mut [u32], out: &mut [u32])
 // The coefficients of the polynomial that takes vs[i] at xs[i]: Newton's rule, one point more each turn
 pub fn interpolate(p: Modulus, xs: &[u32], vs: &[u32], out: &mut [u32])
     requires few { length out.old ≤ 513 }
-    requires points { length xs.now ≡ length out.old }
-    requires values { length vs.now ≡ length out.old }
+    requires points { length out.old ≤ length xs.now }
+    requires values { length out.old ≤ length vs.now }
     requires different { Different p.value (length out.old) (λ i. get_or xs.now i 0) }
     requires values_below { (i : ℕ) → i < length out.old → get_or vs.now i 0 < p.value }
     ensures { out.new ≡ tabulate (length out.old) (λ k. val p.value (newton (residues p.value) (inv p.value) (λ i. res p.value (get_or xs.now i 0)) (λ i. res p.value (get_or vs.now i 0)) (length out.old) k)) }
