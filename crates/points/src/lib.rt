@@ -31,12 +31,7 @@ fn power_occurs(t: &[u32], m: usize, j: usize) -> bool
     requires j_bound { j ≤ 16 }
     ensures { result ≡ occurs m (term 16 t.now) j }
 {
-    for i in 0..m + 1 {
-        if t[i * 17 + j] != 0 {
-            return true;
-        }
-    }
-    false
+    (0..m + 1).any(|i| t[i * 17 + j] != 0)
 }
 
 // The largest power of y that really occurs in the rows up to m; 0 where none does
@@ -45,12 +40,7 @@ pub fn true_degree(t: &[u32], m: usize) -> usize
     requires m_bound { m ≤ 16 }
     ensures { result ≡ largest 16 (occurs m (term 16 t.now)) }
 {
-    for j in (1..17).rev() {
-        if power_occurs(t, m, j) {
-            return j;
-        }
-    }
-    0
+    (1..17).rev().find(|j| power_occurs(t, m, *j)).unwrap_or(0)
 }
 
 // A table of one polynomial, 17 places to a power of x: the coefficient of x^i y^j stands at 17 i + j. Its degree in x
@@ -136,20 +126,14 @@ impl Pair<'_> {
     }
 
     // Whether at least `wanted` points below p are usable; it stops as soon as so many are found
-    #[tactic(auto, using(crate::proofs::Counting::counting))]
     pub fn has_usable(self, wanted: usize) -> bool
         ensures { result ≡ leb wanted (length (usables (pair_at self.entry) self.entry.p.value)) }
     {
-        let mut found: usize = 0;
-        for y in 0..self.p.value {
-            if found == wanted {
-                return true;
-            }
-            if self.usable(y) {
-                found += 1;
-            }
-        }
-        wanted <= found
+        let found = (0..self.p.value)
+            .filter(|y| self.usable(*y))
+            .take(wanted)
+            .count();
+        found == wanted
     }
 }
 
