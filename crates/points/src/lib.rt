@@ -69,8 +69,8 @@ impl Table<'_> {
         requires room { length out.old ≡ self.m + 1 }
         ensures { out.new ≡ row_at p self.entry.m 16 (term 16 self.entry.entries.now) a }
     {
-        for i in 0..out.len() {
-            out[i] = self.row_value(p, i, a);
+        for (i, value) in out.iter_mut().enumerate() {
+            *value = self.row_value(p, i, a);
         }
     }
 }
@@ -142,9 +142,9 @@ fn add_multiple(p: Modulus, c: u32, t: &[u32], out: &mut [u32])
     requires as_long { length out.old ≤ length t.now }
     ensures { out.new ≡ tabulate (length out.old) (plus_multiple p.value c t.now out.old) }
 {
-    // a `zip` with `iter_mut` was tried: the proof keeps nothing of `out` across its turns
-    for k in 0..out.len() {
-        out[k] = field::mul_add(p.value, c, t[k], out[k]);
+    // t by its index, since of what is written through `out.iter_mut().zip(t)` a proof knows nothing
+    for (k, value) in out.iter_mut().enumerate() {
+        *value = field::mul_add(p.value, c, t[k], *value);
     }
 }
 
