@@ -62,7 +62,8 @@ impl Rows<'_> {
 }
 
 // A matrix modulo p in 36 numbers, six to a row: the one in row i and column k stands at 6 i + k. Memory is fixed, so a
-// smaller matrix is a part of this: the rows from some row on, in some columns.
+// smaller matrix is a part of this: the rows from some row on, in some columns. Of p no more is asked than that it is at
+// least 2, since `determinant` and `term`, which docs/PROMISES.md names, ask no more.
 #[derive(Drop)]
 pub struct Matrix {
     pub p: u32,
@@ -82,6 +83,7 @@ impl Matrix {
             return 1;
         }
         let mut sum: u32 = 0;
+        // no `fold`: a closure in a cycle of calls needs clauses of its own, and they would repeat both contracts
         for j in 0..cols.len() {
             sum = add(self.p, sum, self.term(row, cols, j));
         }

@@ -190,7 +190,8 @@ fn next_point(p: Modulus, x: u32, v: u32, t: &mut [u32], out: &mut [u32])
     times_linear(p, x, t);
 }
 
-// The coefficients of the polynomial that takes vs[i] at xs[i]: Newton's rule, one point more each turn
+// The coefficients of the polynomial that takes vs[i] at xs[i]: Newton's rule, one point more each turn. Points and values
+// are two slices, since the job record, which C sees, holds them as two arrays.
 pub fn interpolate(p: Modulus, xs: &[u32], vs: &[u32], out: &mut [u32])
     requires few { length out.old ≤ 513 }
     requires points { length out.old ≤ length xs.now }
@@ -212,5 +213,5 @@ pub fn degree(coefficients: &[u32]) -> Option<usize>
     ensures bound { IfSome result (λ k. k < length coefficients.now) }
     ensures value { result ≡ cond (some (length coefficients.now) (λ k. not (eqb (get_or coefficients.now k 0) 0))) (Some (largest (length coefficients.now - 1) (λ k. not (eqb (get_or coefficients.now k 0) 0)))) None }
 {
-    coefficients.iter().rposition(|c| *c != 0)
+    rows::true_length(coefficients).checked_sub(1)
 }
