@@ -59,8 +59,7 @@ for functions in bodies.values():
                 twins.append(f"{place} is like {other.rsplit(' ', 1)[1]}")
 show(2, "functions of one crate that are nearly the same text", twins)
 
-counted = matching(r"\bwhile \S+ (<|<=|>|>=) ") + matching(r"\bfor \w+ in [\w.]+\.\.")
-show(3, "loops that count: by hand, and over a range", counted)
+show(3, "`while`, and `for` over a range", matching(r"^\s*while ") + matching(r"\bfor \w+ in \(?[\w.]+\.\."))
 
 written = r"fn (eq|cmp|clone|from|to|default|blank|fresh|flag|copy|fmt|byte_at|number4|put_\w+|clear|unit)(_\w+)?\("
 show(4, "equality, copying, conversion, printing by hand", matching(written))

@@ -26,11 +26,6 @@ fn resultant<P: Print>(rt: &P, name: &str, p: u32, a: &[u32], b: &[u32]) -> io::
     answer(rt, name, "resultant", &[r.number, r.value, r.steps])
 }
 
-fn plain<P: Print>(rt: &P, name: &str, p: u32, a: &[u32], b: &[u32]) -> io::Result<()> {
-    let r = kernel::plain_determinant(p, a, b);
-    answer(rt, name, "plain", &[r.number, r.value])
-}
-
 // The work row is shown before and after, so that a refusal is seen to leave it.
 fn division<P: Print>(rt: &P, name: &str, p: u32, row: &mut [u32], b: &[u32]) -> io::Result<()> {
     print!(rt; "{name} division")?;
@@ -50,7 +45,8 @@ fn divisor<'a, P: Print>(rt: &P, name: &str, a: &'a [u32], b: &'a [u32]) -> io::
 
 fn both<P: Print>(rt: &P, name: &str, p: u32, a: &[u32], b: &[u32]) -> io::Result<()> {
     resultant(rt, name, p, a, b)?;
-    plain(rt, name, p, a, b)
+    let r = kernel::plain_determinant(p, a, b);
+    answer(rt, name, "plain", &[r.number, r.value])
 }
 
 fn figures<P: Print>(rt: &P) -> io::Result<()> {
