@@ -75,7 +75,7 @@ impl Kind {
 }
 
 impl Refusal {
-    // The number that a refused record prints.
+    // The number that a refused record prints, by the name that it has in `checks` too.
     pub fn number(self) -> u32
         ensures { result ≡ refusal_number self }
     {
@@ -126,7 +126,7 @@ pub fn body_length(kind: u8) -> usize
     }
 }
 
-// The little-endian number in four bytes.
+// The little-endian number in four bytes, from a place on as in the definition.
 pub fn number4(body: &[u8], at: usize) -> u32
     requires { at + 3 < length body.now }
     ensures { result ≡ Deck·number4 body.now at }

@@ -183,7 +183,7 @@ pub fn one_shot(
     reads::answer(reads::one_shot(p, a, b, out))
 }
 
-// A refusal, with the job that it hands back.
+// A refusal, with the job that it hands back; not a `From`, since neither type is this crate's.
 fn refused(refusal: Refusal, job: Job) -> JobAnswer
     ensures { result ≡ record { number = number_of refusal; job = job } }
 {
