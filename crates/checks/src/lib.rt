@@ -33,7 +33,7 @@ pub enum Refusal {
 }
 
 impl Refusal {
-    // What the scope's table lists for it
+    // What the scope's table lists for it. Two numbers belong to a refusal, so each has a name; `u32::from` would not say which.
     pub fn number(self) -> u32
         ensures { result ≡ number_of self }
     {
@@ -222,7 +222,8 @@ fn entries(p: u32, a: &[u32], b: &[u32]) -> Result<(), Refusal>
     Ok(())
 }
 
-// What is refused of the rows of a division: Degree, Entry, Divisor
+// What is refused of the rows of a division: Degree, Entry, Divisor. The order is another than that of two rows, and so are
+// the tests.
 #[tactic(auto, using(crate::proofs::Chain::chain), unfolding(crate::specs::Parts::division_rows_number))]
 fn division_rows(p: u32, row: &[u32], b: &[u32]) -> Result<(), Refusal>
     ensures { outcome result ≡ division_rows_number p row.now b.now }

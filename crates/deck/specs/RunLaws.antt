@@ -10,17 +10,22 @@
 --   Stands run                            some arrivals lead from the start to where the run stands, and it goes on
 --   stands-start, stands_on               before the first record, and after a turn that does not stop it
 --   ran_stopped, ran_failed, ran_spent    a whole run, ended by its last turn or by the number of turns
---   Keeps .. run                          where the run stands, beside what was read and written on the way
+--   Keeps .. turn run                     where the run stands after so many turns, beside what was read and written on the way
 --   keeps_start, keeps_on                 before the first record, and after a turn that does not stop it
+--   ended-stops                           where the input ended in an arrival the run stops
 --   played_stopped, played_failed,
 --   played_spent                          a whole run, beside what was read and written in it
---   turns-deck                            a run that stopped is the definition's run of the bytes that arrived: the text that it
---                                         printed, and the state it left
---   played-deck                           so is a run over bytes in memory: what it took of them, what it wrote, and its state
+--   turns-whole                           a run that stopped is the definition's run of the bytes that arrived and of whatever
+--                                         follows them, which is nothing where the input ended: the text that it printed, and the
+--                                         state it left
+--   turns-deck                            so it is of the bytes that arrived alone
+--   played-deck                           so is a run over bytes in memory, of what it took of them and of them all: what it wrote,
+--                                         and its state
 use Rattle.stream.proofs.Bytes.{consumes_none, consumes_more, appends_none, appends_more}
 use Rattle.std.specs.Io.KnownBytes.{Consumes, Appends}
 use Rattle.std.specs.Prelude.{Option, Some, Result, Ok, Err, ℕ, zero, suc, ◌+◌, ◌≤◌, ◌<◌, Bool, ◌≡◌}
 use Rattle.std.proofs.Common.{arith, ◌∙◌, subst}
+use Rattle.std.proofs.lemmas.Bool.{false_from_ne_true}
 use Rattle.std.proofs.Math.Decide.{ℕ_discrete}
 use Rattle.std.proofs.Math.Bool.{true, false}
 use mathlib.Core.List.{List, [], ◌∷◌, ◌++◌, append_assoc, append-nil}
@@ -40,62 +45,68 @@ use Rattle.stream.specs.declared.Record.{Record}
 use Rattle.stream.specs.declared.Stop.TheVariants.{Ended, Failed}
 use Rattle.stream.specs.declared.Arrival.{Arrival}
 use Rattle.stream.specs.declared.Arrival.TheVariants.{Whole, Cut, Nothing}
-use Rattle.stream.specs.Arrival.{Arrives, bytes_of}
+use Rattle.stream.specs.Arrival.{Arrives, bytes_of, stop_of}
 use Rattle.deck.specs.declared.Failure.{Failure}
 use Rattle.deck.specs.declared.Failure.TheVariants.{Read, Write, Records}
 use Rattle.deck.specs.declared.Run.{Run}
 use Rattle.deck.specs.declared.Ending.{Ending}
-use Rattle.deck.specs.Run.{told, past, Place, start, on, Turns, Unread, Goes, Takes, Turned, Ran, delivered, Unfailed, Played}
+use Rattle.deck.specs.Run.{told, past, Place, start, on, Turns, Unread, AtEnd, Goes, Takes, Turned, Ran, delivered, Unfailed, AllAtEnd, turn_limit, Played}
 
 clash : {X : Type 0} {t : Bool} → t ≡ true → t ≡ false → X
 clash p q = let z : ◌≡◌ {A = ℕ} 0 1 = cc in absurd (omega arith)
 
 module _ (run : Run) (a : Arrival) where
   -- a failed read
-  unread_takes : (text : List ℕ) → (told run.deck.state run.offset a).state ≡ run.deck.state → past a ≡ 0 → Unread a → Takes run a run text (Err Read)
-  unread_takes text s p u = record {
+  unread_takes : (held text : List ℕ) (r : Result Bool Failure) → (told run.deck.state run.offset a).state ≡ run.deck.state → past a ≡ 0
+      → Unread a → text ≡ held → r ≡ Err Read → Takes run a run held text r
+  unread_takes held text r s p u same e = record {
     goes = record { state = sym s; offset = omega (arith, p) };
-    halt = λ stops e. cc;
-    line = λ stops e. cc;
-    unread = (λ _. u, λ _. refl);
-    only = λ e. cc;
-    lasts = λ e. cc;
+    halt = λ stops ok. cc;
+    line = λ stops ok. cc;
+    unread = (λ _. u, λ _. e);
+    kept = λ _. same;
+    only = λ other. cc;
+    lasts = λ other. cc;
   }
 
   -- the end of input, or a record
-  read_takes : (run' : Run) (text : List ℕ) (stops : Bool) → Goes run a run' → stops ≡ (told run.deck.state run.offset a).halt
-      → text ≡ (told run.deck.state run.offset a).text → (Unread a → ⊥) → Takes run a run' text (Ok stops)
-  read_takes run' text stops g h t n = record {
+  read_takes : (run' : Run) (held text : List ℕ) (stops : Bool) (r : Result Bool Failure) → Goes run a run'
+      → stops ≡ (told run.deck.state run.offset a).halt → text ≡ (told run.deck.state run.offset a).text → (Unread a → ⊥) → r ≡ Ok stops
+      → Takes run a run' held text r
+  read_takes run' held text stops r g h t n e = record {
     goes = g;
-    halt = λ other e. let same : other ≡ stops = cc in same ∙ h;
+    halt = λ other ok. let same : other ≡ stops = cc in same ∙ h;
     line = λ _ _. t;
-    unread = (λ e. cc, λ u. absurd (n u));
-    only = λ e. cc;
-    lasts = λ e. cc;
+    unread = (λ other. cc, λ u. absurd (n u));
+    kept = λ other. cc;
+    only = λ other. cc;
+    lasts = λ other. cc;
   }
 
 module _ (run : Run) where
-  pub takes_unread : (a : Arrival) (text : List ℕ) → Unread a → Takes run a run text (Err Read)
+  pub takes_unread : (a : Arrival) (held text : List ℕ) (r : Result Bool Failure) → Unread a → text ≡ held → r ≡ Err Read → Takes run a run held text r
   unfolding told past
-  takes_unread (Whole r) text u = cc
-  takes_unread (Cut r Ended) text u = cc
-  takes_unread (Cut r Failed) text u = unread_takes run (Cut r Failed) text refl refl u
-  takes_unread (Nothing Ended) text u = cc
-  takes_unread (Nothing Failed) text u = unread_takes run (Nothing Failed) text refl refl u
+  takes_unread (Whole r) held text result u same e = cc
+  takes_unread (Cut r Ended) held text result u same e = cc
+  takes_unread (Cut r Failed) held text result u same e = unread_takes run (Cut r Failed) held text result refl refl u same e
+  takes_unread (Nothing Ended) held text result u same e = cc
+  takes_unread (Nothing Failed) held text result u same e = unread_takes run (Nothing Failed) held text result refl refl u same e
 
-  pub takes_end : (a : Arrival) (text : List ℕ) → a ≡ Nothing Ended → text ≡ line end_word [] → Takes run a run text (Ok true)
+  pub takes_end : (a : Arrival) (held text : List ℕ) (r : Result Bool Failure) → a ≡ Nothing Ended → text ≡ line end_word [] → r ≡ Ok true
+      → Takes run a run held text r
   unfolding told past
-  takes_end a text n e = rw n (read_takes run (Nothing Ended) run text true (record { state = refl; offset = omega arith }) refl e (λ u. cc))
+  takes_end a held text r n t e =
+      rw n (read_takes run (Nothing Ended) run held text true r (record { state = refl; offset = omega arith }) refl t (λ u. cc) e)
 
-  module _ (run' : Run) (r : Record) (text : List ℕ) (stops : Bool) (s : Steps (stepped run.deck.state r.kind r.body.items run.offset) run'.deck.state stops text)
+  module _ (run' : Run) (r : Record) (held text : List ℕ) (stops : Bool) (s : Steps (stepped run.deck.state r.kind r.body.items run.offset) run'.deck.state stops text)
       (o : run'.offset ≡ run.offset + (1 + body_length r.kind)) (a : Arrival) where
-    pub takes_whole : a ≡ Whole r → Takes run a run' text (Ok stops)
+    pub takes_whole : a ≡ Whole r → Takes run a run' held text (Ok stops)
     unfolding told past
-    takes_whole e = rw e (read_takes run (Whole r) run' text stops (record { state = s.state; offset = o }) s.halted s.line (λ u. cc))
+    takes_whole e = rw e (read_takes run (Whole r) run' held text stops _ (record { state = s.state; offset = o }) s.halted s.line (λ u. cc) refl)
 
-    pub takes_cut : a ≡ Cut r Ended → Takes run a run' text (Ok stops)
+    pub takes_cut : a ≡ Cut r Ended → Takes run a run' held text (Ok stops)
     unfolding told past
-    takes_cut e = rw e (read_takes run (Cut r Ended) run' text stops (record { state = s.state; offset = o }) s.halted s.line (λ u. cc))
+    takes_cut e = rw e (read_takes run (Cut r Ended) run' held text stops _ (record { state = s.state; offset = o }) s.halted s.line (λ u. cc) refl)
 
 pub told_unread : (d : Deck) (offset : ℕ) (a : Arrival) → Unread a → (told d offset a).halt ≡ true
 unfolding told
@@ -113,9 +124,10 @@ told_nothing d offset (Cut r Failed) u = refl
 told_nothing d offset (Nothing Ended) u = cc
 told_nothing d offset (Nothing Failed) u = refl
 
-pub turned_unread : (run run' : Run) (a : Arrival) (text : List ℕ) (f : Failure) (input input' output : Option (List ℕ)) → Takes run a run' text (Err f) → Arrives a
-    → Consumes input input' (bytes_of a) → Turned run input input' output output run' text (Err f)
-turned_unread run run' a text Read input input' output t here bytes =
+pub turned_unread : (run run' : Run) (a : Arrival) (held text : List ℕ) (f : Failure) (input input' output : Option (List ℕ))
+    → Takes run a run' held text (Err f) → Arrives a → Consumes input input' (bytes_of a) → AtEnd input' a
+    → Turned run input input' output output run' held text (Err f)
+turned_unread run run' a held text Read input input' output t here bytes end =
     let u : Unread a = t.unread.0 refl in
     record {
       arrival = a;
@@ -124,12 +136,14 @@ turned_unread run run' a text Read input input' output t here bytes =
       halt = λ stops e. cc;
       line = λ n. absurd (n refl);
       read = bytes;
+      end = end;
       printed = λ _. subst (λ (s : List ℕ). Appends output output s) (sym (told_nothing run.deck.state run.offset a u)) (appends_none output);
       unread = (λ _. u, λ _. refl);
+      kept = t.kept;
       lasts = λ e. cc;
     }
-turned_unread run run' a text Write input input' output t here bytes = absurd (t.only refl)
-turned_unread run run' a text Records input input' output t here bytes = absurd (t.lasts refl)
+turned_unread run run' a held text Write input input' output t here bytes end = absurd (t.only refl)
+turned_unread run run' a held text Records input input' output t here bytes end = absurd (t.lasts refl)
 
 pub told_fit : (d : Deck) (offset : ℕ) (a : Arrival) → Fit d → Fit (told d offset a).state
 unfolding told
@@ -163,7 +177,7 @@ pub stands-start : (run : Run) → run.deck.state ≡ fresh → run.offset ≡ 0
 unfolding start Turns
 stands-start run s o = record { arrivals = []; place = start; turns = refl; state = s; offset = o; going = refl }
 
-module _ (run : Run) (i' i'' o' o'' : Option (List ℕ)) (run' : Run) (text : List ℕ) (r : Result Bool Failure) (before : Stands run) (t : Turned run i' i'' o' o'' run' text r) where
+module _ (run : Run) (i' i'' o' o'' : Option (List ℕ)) (run' : Run) (held text : List ℕ) (r : Result Bool Failure) (before : Stands run) (t : Turned run i' i'' o' o'' run' held text r) where
   next : Place
   next = on before.place t.arrival
 
@@ -223,18 +237,67 @@ unfolding Unfailed
 unfailed-last [] a (f, u) = f
 unfailed-last (x ∷ xs) a (e, u) = unfailed-last xs a u
 
-pub record Keeps (input input' output output' : Option (List ℕ)) (run : Run) : Type 0 where
+pub record Keeps (input input' output output' : Option (List ℕ)) (turn : ℕ) (run : Run) : Type 0 where
   pub stands : Stands run
+  pub count : length stands.arrivals ≡ turn
   pub read : Consumes input input' (delivered stands.arrivals)
   pub printed : Appends output output' stands.place.text
   pub unfailed : Unfailed stands.arrivals
 
-pub keeps_start : (input output : Option (List ℕ)) (run : Run) → run.deck.state ≡ fresh → run.offset ≡ 0 → Keeps input input output output run
+pub keeps_start : (input output : Option (List ℕ)) (run : Run) → run.deck.state ≡ fresh → run.offset ≡ 0 → Keeps input input output output 0 run
 unfolding stands-start start delivered Unfailed
-keeps_start input output run s o = record { stands = stands-start run s o; read = consumes_none input; printed = appends_none output; unfailed = tt }
+keeps_start input output run s o = record { stands = stands-start run s o; count = refl; read = consumes_none input; printed = appends_none output; unfailed = tt }
 
-module _ (run : Run) (i i' i'' o o' o'' : Option (List ℕ)) (run' : Run) (text : List ℕ) (r : Result Bool Failure)
-    (before : Keeps i i' o o' run) (t : Turned run i' i'' o' o'' run' text r) where
+-- no arrival comes after the run has stopped
+turns-last : (w : Place) (xs : List Arrival) (v : Place) → Turns w xs v → w.halt ≡ true → (xs ≡ []) × (w ≡ v)
+unfolding Turns
+turns-last w [] v t h = (refl, t)
+turns-last w (a ∷ xs) v (g, s, t) h = clash h g
+
+-- a record after which the run goes on has all of its body
+going_whole : (d : Deck) (k : ℕ) (body : List ℕ) (offset : ℕ) → (stepped d k body offset).halt ≡ false → body_length k ≤ length body
+going_whole d k body offset h =
+    elim (ℕ_discrete (deck_number d k body) 0) [
+      | yes e ↦ whole_body d k body (passed d k body e).arrived
+      | no e ↦ clash (ap (λ (s : Stepped). s.halt) (stepped_refused d k body offset e)) h
+    ]
+
+-- where the input ended in an arrival the run stops
+pub ended-stops : (d : Deck) (offset : ℕ) (a : Arrival) → Arrives a → stop_of a ≡ Some Ended → (told d offset a).halt ≡ false → ⊥
+unfolding told
+ended-stops d offset (Whole r) here e h = cc
+ended-stops d offset (Cut r Ended) here e h = omega (arith, here, going_whole d r.kind r.body.items offset h)
+ended-stops d offset (Cut r Failed) here e h = cc
+ended-stops d offset (Nothing Ended) here e h = clash refl h
+ended-stops d offset (Nothing Failed) here e h = cc
+
+-- so that it did in none, while the run goes on
+module _ (left : Option (List ℕ)) where
+  going_end : (w : Place) (a : Arrival) (xs : List Arrival) (v : Place) → Arrives a → Turns (on w a) xs v → v.halt ≡ false → AtEnd left a
+  unfolding on
+  going_end w a xs v here t h e =
+      absurd (ended-stops w.state w.offset a here e
+      (false_from_ne_true _ (λ stopped. clash (ap (λ (v : Place). v.halt) (sym (turns-last (on w a) xs v t stopped).1) ∙ stopped) h)))
+
+  all-going_end : (w : Place) (xs : List Arrival) (v : Place) → Turns w xs v → v.halt ≡ false → AllAtEnd left xs
+  unfolding Turns AllAtEnd
+  all-going_end w [] v t h = tt
+  all-going_end w (a ∷ xs) v (g, here, t) h = (going_end w a xs v here t h, all-going_end (on w a) xs v t h)
+
+  end_snoc : (xs : List Arrival) (a : Arrival) → AllAtEnd left xs → AtEnd left a → AllAtEnd left (xs ++ a ∷ [])
+  unfolding AllAtEnd
+  end_snoc [] a u f = (f, tt)
+  end_snoc (x ∷ xs) a (e, u) f = (e, end_snoc xs a u f)
+
+module _ (run : Run) (i i' i'' o o' o'' : Option (List ℕ)) (turn : ℕ) (run' : Run) (held text : List ℕ) (r : Result Bool Failure)
+    (before : Keeps i i' o o' turn run) (t : Turned run i' i'' o' o'' run' held text r) where
+  all-count : length (before.stands.arrivals ++ t.arrival ∷ []) ≡ turn + 1
+  all-count = omega (arith, length-append before.stands.arrivals (t.arrival ∷ []), before.count)
+
+  all-end : AllAtEnd i'' (before.stands.arrivals ++ t.arrival ∷ [])
+  all-end = end_snoc i'' before.stands.arrivals t.arrival
+      (all-going_end i'' start before.stands.arrivals before.stands.place before.stands.turns before.stands.going) t.end
+
   all-read : Consumes i i'' (delivered (before.stands.arrivals ++ t.arrival ∷ []))
   all-read = rw (delivered_snoc before.stands.arrivals t.arrival) (consumes_more i i' i'' _ _ before.read t.read)
 
@@ -248,10 +311,11 @@ module _ (run : Run) (i i' i'' o o' o'' : Option (List ℕ)) (run' : Run) (text 
   all-unfailed : (r ≡ Err Read → ⊥) → Unfailed (before.stands.arrivals ++ t.arrival ∷ [])
   all-unfailed n = unfailed_snoc before.stands.arrivals t.arrival before.unfailed (λ u. n (t.unread.1 u))
 
-  pub keeps_on : r ≡ Ok false → Keeps i i'' o o'' run'
+  pub keeps_on : r ≡ Ok false → Keeps i i'' o o'' (turn + 1) run'
   unfolding stands_on next
   keeps_on e = record {
-    stands = stands_on run i' i'' o' o'' run' text r before.stands t e;
+    stands = stands_on run i' i'' o' o'' run' held text r before.stands t e;
+    count = all-count;
     read = all-read;
     printed = all_printed (λ w. cc);
     unfailed = all-unfailed (λ w. cc);
@@ -260,8 +324,9 @@ module _ (run : Run) (i i' i'' o o' o'' : Option (List ℕ)) (run' : Run) (text 
   pub played_stopped : r ≡ Ok true → Played i i'' o o'' (record { state = run'.deck.state; result = Ok tt })
   unfolding ran_stopped next
   played_stopped e = record {
-    ran = ran_stopped run i' i'' o' o'' run' text r before.stands t e;
+    ran = ran_stopped run i' i'' o' o'' run' held text r before.stands t e;
     read = all-read;
+    end = all-end;
     printed = λ _. all_printed (λ w. cc);
     unread = (λ _. all-unfailed (λ w. cc), λ _ w. cc);
     spent = λ w. cc;
@@ -270,8 +335,9 @@ module _ (run : Run) (i i' i'' o o' o'' : Option (List ℕ)) (run' : Run) (text 
   pub played_failed : (f : Failure) → r ≡ Err f → Played i i'' o o'' (record { state = run'.deck.state; result = Err f })
   unfolding ran_failed next
   played_failed f e = record {
-    ran = ran_failed run i' i'' o' o'' run' text r before.stands t f e;
+    ran = ran_failed run i' i'' o' o'' run' held text r before.stands t f e;
     read = all-read;
+    end = all-end;
     printed = λ n. all_printed (λ w. n (let same : f ≡ Write = cc in ap Err same));
     unread = (
       λ n. all-unfailed (λ w. n (let same : f ≡ Read = cc in ap Err same)),
@@ -280,22 +346,17 @@ module _ (run : Run) (i i' i'' o o' o'' : Option (List ℕ)) (run' : Run) (text 
     spent = λ w. absurd (t.lasts (let same : f ≡ Records = cc in e ∙ ap Err same));
   }
 
-pub played_spent : (i i' o o' : Option (List ℕ)) (run : Run) → Keeps i i' o o' run
+pub played_spent : (i i' o o' : Option (List ℕ)) (turn : ℕ) (run : Run) → Keeps i i' o o' turn run → turn ≡ turn_limit
     → Played i i' o o' (record { state = run.deck.state; result = Err Records })
 unfolding ran_spent
-played_spent i i' o o' run k = record {
+played_spent i i' o o' turn run k all = record {
   ran = ran_spent run k.stands;
   read = k.read;
+  end = all-going_end i' start k.stands.arrivals k.stands.place k.stands.turns k.stands.going;
   printed = λ _. k.printed;
   unread = (λ _. k.unfailed, λ _ w. cc);
-  spent = λ _. k.stands.going;
+  spent = λ _. (k.stands.going, k.count ∙ all);
 }
-
--- no arrival comes after the run has stopped
-turns-last : (w : Place) (xs : List Arrival) (v : Place) → Turns w xs v → w.halt ≡ true → (xs ≡ []) × (w ≡ v)
-unfolding Turns
-turns-last w [] v t h = (refl, t)
-turns-last w (a ∷ xs) v (g, s, t) h = clash h g
 
 -- one record of the definition's loop, `rest` being what follows its body
 module _ (fuel offset : ℕ) (d : Deck) (k : ℕ) (body rest : List ℕ) (cut : take (body_length k) (body ++ rest) ≡ body) where
@@ -309,14 +370,6 @@ module _ (fuel offset : ℕ) (d : Deck) (k : ℕ) (body rest : List ℕ) (cut : 
       ≡ before (stepped d k body offset).text (stepping fuel (offset + 1 + body_length k) (stepped d k body offset).state rest)
   unfolding stepping follow
   stepping-on h e = rw (cut, h, e) refl
-
--- a record after which the run goes on has all of its body
-going_whole : (d : Deck) (k : ℕ) (body : List ℕ) (offset : ℕ) → (stepped d k body offset).halt ≡ false → body_length k ≤ length body
-going_whole d k body offset h =
-    elim (ℕ_discrete (deck_number d k body) 0) [
-      | yes e ↦ whole_body d k body (passed d k body e).arrived
-      | no e ↦ clash (ap (λ (s : Stepped). s.halt) (stepped_refused d k body offset e)) h
-    ]
 
 -- from any place, with room for as many records as there are bytes
 abbrev Same : Place → Place → Outcome → Type 0
@@ -341,79 +394,109 @@ on_same w a v s o p e f (text, state) = (
   state ∙ sym (ap (λ (o : Outcome). o.state) f),
 )
 
--- an arrival that is stepped as a record of kind k with this body
-record Comes (w : Place) (a : Arrival) (k : ℕ) (body : List ℕ) : Type 0 where
+-- an arrival that is stepped as a record of kind k with this body, ys being what follows the run
+record Comes (w : Place) (a : Arrival) (k : ℕ) (body ys : List ℕ) : Type 0 where
   tells : told w.state w.offset a ≡ stepped w.state k body w.offset
   passes : past a ≡ 1 + body_length k
   gives : bytes_of a ≡ k ∷ body
   few : length body ≤ body_length k
+  cuts : take (body_length k) (body ++ ys) ≡ body
 
--- the rest of a run, from any place
-abbrev Rest : List Arrival → Type 0
-Rest xs = (fuel : ℕ) (w v : Place) → Turns w xs v → v.halt ≡ true → w.halt ≡ false → Unfailed xs → length (delivered xs) < fuel
-    → Same w v (stepping fuel w.offset w.state (delivered xs))
+-- the rest of a run, from any place, and then ys, which is nothing where the input ended
+abbrev Rest : List ℕ → List Arrival → Type 0
+Rest ys xs = (fuel : ℕ) (w v : Place) → Turns w xs v → v.halt ≡ true → w.halt ≡ false → Unfailed xs → AllAtEnd (Some ys) xs
+    → length (delivered xs ++ ys) < fuel → Same w v (stepping fuel w.offset w.state (delivered xs ++ ys))
 
-module _ (xs : List Arrival) (fuel : ℕ) (w v : Place) where
-  module _ (a : Arrival) (k : ℕ) (body : List ℕ) (c : Comes w a k body) (t : Turns (on w a) xs v) (h : v.halt ≡ true) (u : Unfailed xs)
-      (l : length (delivered (a ∷ xs)) < suc fuel) where
+module _ (ys : List ℕ) (xs : List Arrival) (fuel : ℕ) (w v : Place) where
+  module _ (a : Arrival) (k : ℕ) (body : List ℕ) (c : Comes w a k body ys) (t : Turns (on w a) xs v) (h : v.halt ≡ true) (u : Unfailed xs)
+      (end : AllAtEnd (Some ys) xs) (l : length (delivered (a ∷ xs) ++ ys) < suc fuel) where
     s : Stepped
     s = stepped w.state k body w.offset
 
-    arrives : (ys : List Arrival) → delivered (a ∷ ys) ≡ k ∷ (body ++ delivered ys)
+    arrives : (zs : List Arrival) → delivered (a ∷ zs) ++ ys ≡ k ∷ (body ++ (delivered zs ++ ys))
     unfolding delivered
-    arrives ys = ap (λ (l : List ℕ). l ++ delivered ys) c.gives
+    arrives zs =
+        ap (λ (l : List ℕ). (l ++ delivered zs) ++ ys) c.gives
+        ∙ ap (λ (l : List ℕ). k ∷ l) (append_assoc body (delivered zs) ys)
 
-    record_same : Rest xs → (q : Bool) → s.halt ≡ q → Same w v (stepping (suc fuel) w.offset w.state (delivered (a ∷ xs)))
+    record_same : Rest ys xs → (q : Bool) → s.halt ≡ q → Same w v (stepping (suc fuel) w.offset w.state (delivered (a ∷ xs) ++ ys))
     unfolding s
     record_same ih true q =
-        let bare : body ++ delivered [] ≡ body = unfold delivered in append-nil body in
-        let cut : take (body_length k) (body ++ delivered []) ≡ body =
-        ap (take (body_length k)) bare ∙ take_all (body_length k) body c.few in
+        let bare : delivered [] ++ ys ≡ ys = unfold delivered in refl in
+        let cut : take (body_length k) (body ++ (delivered [] ++ ys)) ≡ body =
+        ap (λ (t : List ℕ). take (body_length k) (body ++ t)) bare ∙ c.cuts in
         stop-same w a xs v s _ t c.tells q
-        (λ none. ap (stepping (suc fuel) w.offset w.state) (arrives xs ∙ ap (λ (xs : List Arrival). k ∷ (body ++ delivered xs)) none)
-        ∙ stepping_stop fuel w.offset w.state k body (delivered []) cut q)
+        (λ none. ap (stepping (suc fuel) w.offset w.state) (arrives xs ∙ ap (λ (xs : List Arrival). k ∷ (body ++ (delivered xs ++ ys))) none)
+        ∙ stepping_stop fuel w.offset w.state k body (delivered [] ++ ys) cut q)
     record_same ih false q =
+        let rest : List ℕ = delivered xs ++ ys in
         let whole : length body ≡ body_length k = omega (arith, c.few, going_whole w.state k body w.offset q) in
-        let cut : take (body_length k) (body ++ delivered xs) ≡ body =
-        ap (λ (n : ℕ). take n (body ++ delivered xs)) (sym whole) ∙ take-append_seam body (delivered xs) in
-        let left : drop (body_length k) (body ++ delivered xs) ≡ delivered xs =
-        ap (λ (n : ℕ). drop n (body ++ delivered xs)) (sym whole) ∙ drop-append_seam body (delivered xs) in
+        let cut : take (body_length k) (body ++ rest) ≡ body = ap (λ (n : ℕ). take n (body ++ rest)) (sym whole) ∙ take-append_seam body rest in
+        let left : drop (body_length k) (body ++ rest) ≡ rest = ap (λ (n : ℕ). drop n (body ++ rest)) (sym whole) ∙ drop-append_seam body rest in
         let next : w.offset + 1 + body_length k ≡ (on w a).offset = unfold on in omega (arith, c.passes) in
         let state : s.state ≡ (on w a).state = unfold on in sym (ap (λ (s : Stepped). s.state) c.tells) in
         let going : (on w a).halt ≡ false = unfold on in ap (λ (s : Stepped). s.halt) c.tells ∙ q in
-        on_same w a v s (stepping (suc fuel) w.offset w.state (delivered (a ∷ xs))) (stepping fuel (on w a).offset (on w a).state (delivered xs)) c.tells
+        on_same w a v s (stepping (suc fuel) w.offset w.state (delivered (a ∷ xs) ++ ys)) (stepping fuel (on w a).offset (on w a).state rest) c.tells
         (ap (stepping (suc fuel) w.offset w.state) (arrives xs)
-        ∙ stepping-on fuel w.offset w.state k body (delivered xs) cut q left
-        ∙ ap₂ (λ (o : ℕ) (d : Deck). before s.text (stepping fuel o d (delivered xs))) next state)
-        (ih fuel (on w a) v t h going u
-        (omega (arith, l, ap length (arrives xs), length-append body (delivered xs))))
+        ∙ stepping-on fuel w.offset w.state k body rest cut q left
+        ∙ ap₂ (λ (o : ℕ) (d : Deck). before s.text (stepping fuel o d rest)) next state)
+        (ih fuel (on w a) v t h going u end
+        (omega (arith, l, ap length (arrives xs), length-append body rest)))
 
-turns-stepping : (xs : List Arrival) (fuel : ℕ) (w v : Place) → Turns w xs v → v.halt ≡ true → w.halt ≡ false → Unfailed xs → length (delivered xs) < fuel
-    → Same w v (stepping fuel w.offset w.state (delivered xs))
-unfolding Turns Unfailed told past
-turns-stepping [] fuel w v t h g u l = clash (ap (λ (w : Place). w.halt) t ∙ h) g
-turns-stepping (a ∷ xs) zero w v t h g u l = absurd (omega arith)
-turns-stepping (Whole r ∷ xs) (suc fuel) w v (_, e, t) h g (read, u) l =
-    record_same xs fuel w v (Whole r) r.kind r.body.items (record { tells = refl; passes = refl; gives = refl; few = omega (arith, e) }) t h u l (turns-stepping xs) _ refl
-turns-stepping (Cut r Ended ∷ xs) (suc fuel) w v (_, e, t) h g (read, u) l =
-    record_same xs fuel w v (Cut r Ended) r.kind r.body.items (record { tells = refl; passes = refl; gives = refl; few = omega (arith, e) }) t h u l (turns-stepping xs) _ refl
-turns-stepping (Cut r Failed ∷ xs) (suc fuel) w v t h g (read, u) l = absurd (read refl)
-turns-stepping (Nothing Ended ∷ xs) (suc fuel) w v (_, e, t) h g (read, u) l =
-    let end : stepping (suc fuel) w.offset w.state (delivered []) ≡ halted (line end_word []) w.state = unfold stepping delivered in refl in
+turns-stepping : (ys : List ℕ) (xs : List Arrival) → Rest ys xs
+unfolding Turns Unfailed AllAtEnd told past
+turns-stepping ys [] fuel w v t h g u end l = clash (ap (λ (w : Place). w.halt) t ∙ h) g
+turns-stepping ys (a ∷ xs) zero w v t h g u end l = absurd (omega arith)
+turns-stepping ys (Whole r ∷ xs) (suc fuel) w v (_, e, t) h g (read, u) (last, end) l =
+    let cut : take (body_length r.kind) (r.body.items ++ ys) ≡ r.body.items =
+    ap (λ (n : ℕ). take n (r.body.items ++ ys)) (sym e) ∙ take-append_seam r.body.items ys in
+    record_same ys xs fuel w v (Whole r) r.kind r.body.items
+    (record { tells = refl; passes = refl; gives = refl; few = omega (arith, e); cuts = cut }) t h u end l (turns-stepping ys xs) _ refl
+turns-stepping ys (Cut r Ended ∷ xs) (suc fuel) w v (_, e, t) h g (read, u) (last, end) l =
+    let cut : take (body_length r.kind) (r.body.items ++ ys) ≡ r.body.items =
+    ap (λ (ys : List ℕ). take (body_length r.kind) (r.body.items ++ ys)) (last refl)
+    ∙ ap (take (body_length r.kind)) (append-nil r.body.items)
+    ∙ take_all (body_length r.kind) r.body.items (omega (arith, e)) in
+    record_same ys xs fuel w v (Cut r Ended) r.kind r.body.items
+    (record { tells = refl; passes = refl; gives = refl; few = omega (arith, e); cuts = cut }) t h u end l (turns-stepping ys xs) _ refl
+turns-stepping ys (Cut r Failed ∷ xs) (suc fuel) w v t h g (read, u) end l = absurd (read refl)
+turns-stepping ys (Nothing Ended ∷ xs) (suc fuel) w v (_, e, t) h g (read, u) (last, end) l =
+    let stop : stepping (suc fuel) w.offset w.state (delivered [] ++ []) ≡ halted (line end_word []) w.state = unfold stepping delivered in refl in
     let none : delivered (Nothing Ended ∷ xs) ≡ delivered xs = unfold delivered in refl in
     stop-same w (Nothing Ended) xs v _ _ t refl refl
-    (λ bare. ap (stepping (suc fuel) w.offset w.state) (none ∙ ap delivered bare) ∙ end)
-turns-stepping (Nothing Failed ∷ xs) (suc fuel) w v t h g (read, u) l = absurd (read refl)
+    (λ bare. ap (stepping (suc fuel) w.offset w.state) (ap₂ (λ (d ys : List ℕ). d ++ ys) (none ∙ ap delivered bare) (last refl)) ∙ stop)
+turns-stepping ys (Nothing Failed ∷ xs) (suc fuel) w v t h g (read, u) end l = absurd (read refl)
+
+pub turns-whole : (xs : List Arrival) (ys : List ℕ) (v : Place) → Turns start xs v → v.halt ≡ true → Unfailed xs → AllAtEnd (Some ys) xs
+    → (v.text ≡ (deck (delivered xs ++ ys)).text) × (v.state ≡ (deck (delivered xs ++ ys)).state)
+unfolding start
+turns-whole xs ys v t h u end =
+    rw (← deck-stepping (suc (length (delivered xs ++ ys))) (delivered xs ++ ys) (omega arith))
+    (turns-stepping ys xs (suc (length (delivered xs ++ ys))) start v t h refl u end (omega arith))
+
+-- where nothing follows, nothing is left
+bare_end : (xs : List Arrival) → AllAtEnd (Some []) xs
+unfolding AllAtEnd
+bare_end [] = tt
+bare_end (a ∷ xs) = (λ _. refl, bare_end xs)
 
 pub turns-deck : (xs : List Arrival) (v : Place) → Turns start xs v → v.halt ≡ true → Unfailed xs
     → (v.text ≡ (deck (delivered xs)).text) × (v.state ≡ (deck (delivered xs)).state)
-unfolding start
-turns-deck xs v t h u =
-    rw (← deck-stepping (suc (length (delivered xs))) (delivered xs) (omega arith))
-    (turns-stepping xs (suc (length (delivered xs))) start v t h refl u (omega arith))
+turns-deck xs v t h u = rw append-nil at (turns-whole xs [] v t h u (bare_end xs))
 
 pub played-deck : (xs ys held now : List ℕ) (r : Ending) → Played (Some xs) (Some ys) (Some held) (Some now) r → r.result ≡ Ok tt
     → (bs : List ℕ) × (xs ≡ bs ++ ys) × (now ≡ held ++ (deck bs).text) × (r.state ≡ (deck bs).state)
+    × (now ≡ held ++ (deck xs).text) × (r.state ≡ (deck xs).state)
 played-deck xs ys held now r p fine =
-    let run = turns-deck p.ran.arrivals p.ran.last p.ran.turns (p.ran.stopped (λ e. cc) (λ e. cc)) (p.unread.0 (λ e. cc)) in
-    (delivered p.ran.arrivals, p.read, p.printed (λ e. cc) ∙ ap (λ (t : List ℕ). held ++ t) run.0, p.ran.state ∙ run.1)
+    let stopped : p.ran.last.halt ≡ true = p.ran.stopped (λ e. cc) (λ e. cc) in
+    let unfailed = p.unread.0 (λ e. cc) in
+    let run = turns-deck p.ran.arrivals p.ran.last p.ran.turns stopped unfailed in
+    let whole = turns-whole p.ran.arrivals ys p.ran.last p.ran.turns stopped unfailed p.end in
+    let printed : now ≡ held ++ p.ran.last.text = p.printed (λ e. cc) in (
+      delivered p.ran.arrivals,
+      p.read,
+      printed ∙ ap (λ (t : List ℕ). held ++ t) run.0,
+      p.ran.state ∙ run.1,
+      printed ∙ ap (λ (t : List ℕ). held ++ t) (whole.0 ∙ ap (λ (bs : List ℕ). (deck bs).text) (sym p.read)),
+      p.ran.state ∙ whole.1 ∙ ap (λ (bs : List ℕ). (deck bs).state) (sym p.read),
+    )

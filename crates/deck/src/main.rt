@@ -43,7 +43,8 @@ impl fmt::Display for Failure {
     }
 }
 
-// Where a run stands: the state, and the place of the next record.
+// Where a run stands: the state, and the place of the next record. That 8 bytes more do not wrap the place stays a clause: the
+// place grows with each turn, and only the number of turns bounds it.
 #[derive(Clone, Copy)]
 struct Run {
     deck: FitDeck,
@@ -80,11 +81,12 @@ impl Run {
         stops
     }
 
-    // What arrived, taken: its line, and whether the run stops after it. A failed read is told, and changes nothing.
+    // What arrived, taken: its line, and whether the run stops after it. A failed read is told, and changes nothing, not
+    // even the line.
     fn take(&mut self, arrival: &Arrival, line: &mut Text) -> Result<bool, Failure>
         requires arrives { Arrives arrival.now }
         requires offset { self.old.offset + 8 < 2 ^ 64 }
-        ensures { Takes self.old arrival.now self.new line.new.bytes result }
+        ensures { Takes self.old arrival.now self.new line.old.bytes line.new.bytes result }
     {
         match arrival {
             Arrival::Whole(record) => Ok(self.step(record, line)),
@@ -107,7 +109,7 @@ impl Run {
     ) -> Result<bool, Failure>
         requires { self.old.offset + 8 < 2 ^ 64 }
         ensures { Turned self.old (R.remaining input.old) (R.remaining input.new) (W.contents output.old) (W.contents output.new)
-            self.new line.new.bytes result }
+            self.new line.old.bytes line.new.bytes result }
     {
         let arrival = next_record(input);
         let stops = self.take(&arrival, line)?;

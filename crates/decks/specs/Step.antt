@@ -3,7 +3,7 @@
 --   settled d k body      what the step of a record that is not refused leaves
 --   Steps s d halt text   the state d, the text printed, and whether the run stops are those of the step s
 --   Opens d r             r is what the opening of a state answers: the job, or what refuses it
-use Rattle.std.specs.Prelude.{ℕ, ◌<◌, Bool, List, Result, Ok, Err, ◌≡◌}
+use Rattle.std.specs.Prelude.{ℕ, Bool, List, Result, Ok, Err, ◌≡◌}
 use Rattle.checks.specs.declared.Refusal.{Refusal}
 use Rattle.checks.specs.Outcome.{number_of}
 use Rattle.offers.specs.declared.SoundJob.{SoundJob}

@@ -26,5 +26,6 @@ pub struct Deck {
     pub f: u32,
     pub a: [u32; 289],
     pub b: [u32; 289],
+    // beside the stage, since the state of the definition holds a job from the start
     pub job: Job,
 }

@@ -1,10 +1,10 @@
 // The records of a deck that need no job: what refuses one, and the state after it.
 #![tactic(auto, unfolding(crate::specs::Deck::known, crate::specs::Deck::body_length, crate::specs::Deck::byte, crate::specs::Deck::number4, crate::specs::Deck::in_order, crate::specs::Deck::astray, crate::specs::Deck::with_modulus, crate::specs::Deck::with_degrees, crate::specs::Deck::with_place, crate::specs::Deck::fresh, crate::specs::Refusal::steep, scope::specs::Number::too_high, scope::specs::Pair::place))]
 
-ghost use Rattle.std.specs.Prelude.{◌+◌, ◌*◌, ◌<◌, ◌≡◌, length, false, MatchOption};
-ghost use Rattle.decks.specs.Deck.{known, body_length, byte, number4 as Deck·number4, in_order, astray as Deck·astray, with_modulus, with_degrees, with_place, fresh};
+ghost use Rattle.std.specs.Prelude.{◌+◌, ◌*◌, ◌<◌, ◌≡◌, length, MatchOption};
+ghost use Rattle.decks.specs.Deck.{body_length, byte, number4 as Deck·number4, in_order, astray as Deck·astray, with_modulus, with_degrees, with_place, fresh};
 ghost use Rattle.decks.specs.Refusal.{steep};
-ghost use Rattle.decks.specs.Kind.{kind_number, refusal_number, Admits};
+ghost use Rattle.decks.specs.Kind.{kind_number, side_number, refusal_number, Names, Admits};
 
 use crate::{Deck, Stage};
 use job::Job;
@@ -35,22 +35,33 @@ pub enum Refusal {
     Astray,
 }
 
-impl Kind {
-    // The kind with this number, where there is one.
-    pub fn of(number: u8) -> Option<Kind>
-        ensures { MatchOption result (known number ≡ false) (λ k. kind_number k ≡ number) }
-    {
+// The side of a place: the polynomial that it is of.
+#[derive(Clone, Copy)]
+enum Side {
+    A,
+    B,
+}
+
+// The kind with this number, or that there is none.
+impl TryFrom<u8> for Kind {
+    type Error = Refusal;
+
+    ghost try_from_gives = { Names };
+
+    fn try_from(number: u8) -> Result<Kind, Refusal> {
         match number {
-            1 => Some(Kind::Modulus),
-            2 => Some(Kind::Degrees),
-            3 => Some(Kind::Place),
-            4 => Some(Kind::Open),
-            5 => Some(Kind::Point),
-            6 => Some(Kind::Read),
-            _ => None,
+            1 => Ok(Kind::Modulus),
+            2 => Ok(Kind::Degrees),
+            3 => Ok(Kind::Place),
+            4 => Ok(Kind::Open),
+            5 => Ok(Kind::Point),
+            6 => Ok(Kind::Read),
+            _ => Err(Refusal::Unknown),
         }
     }
+}
 
+impl Kind {
     // How many bytes the body of a record has.
     fn body_length(self) -> usize
         ensures { result ≡ body_length (kind_number self) }
@@ -64,7 +75,7 @@ impl Kind {
 }
 
 impl Refusal {
-    // The number that a refused record prints.
+    // The number that a refused record prints, by the name that it has in `checks` too.
     pub fn number(self) -> u32
         ensures { result ≡ refusal_number self }
     {
@@ -78,9 +89,22 @@ impl Refusal {
     }
 }
 
+impl Side {
+    // The side with this number, where there is one.
+    fn of(number: u8) -> Option<Side>
+        ensures { MatchOption result (1 < number) (λ side. side_number side ≡ number) }
+    {
+        match number {
+            0 => Some(Side::A),
+            1 => Some(Side::B),
+            _ => None,
+        }
+    }
+}
+
 impl Stage {
     // A record of this kind may stand here.
-    fn admits(self, kind: Kind) -> bool
+    pub fn admits(self, kind: Kind) -> bool
         ensures { result ≡ in_order self (kind_number kind) }
     {
         match self {
@@ -96,13 +120,13 @@ impl Stage {
 pub fn body_length(kind: u8) -> usize
     ensures { result ≡ body_length kind }
 {
-    match Kind::of(kind) {
-        Some(kind) => kind.body_length(),
-        None => 0,
+    match Kind::try_from(kind) {
+        Ok(kind) => kind.body_length(),
+        Err(_) => 0,
     }
 }
 
-// The little-endian number in four bytes.
+// The little-endian number in four bytes, from a place on as in the definition.
 pub fn number4(body: &[u8], at: usize) -> u32
     requires { at + 3 < length body.now }
     ensures { result ≡ Deck·number4 body.now at }
@@ -140,9 +164,7 @@ impl Deck {
     pub fn admit(&self, kind: u8, body: &[u8]) -> Result<Kind, Refusal>
         ensures { Admits self.now kind body.now result }
     {
-        let Some(known) = Kind::of(kind) else {
-            return Err(Refusal::Unknown);
-        };
+        let known = Kind::try_from(kind)?;
         if body.len() < known.body_length() {
             return Err(Refusal::Cut);
         }
@@ -172,10 +194,10 @@ impl Deck {
     {
         let i = u32::from(body[1]);
         let j = u32::from(body[2]);
-        match body[0] {
-            0 => i > self.m || j > self.e,
-            1 => i > self.n || j > self.f,
-            _ => true,
+        match Side::of(body[0]) {
+            Some(Side::A) => i > self.m || j > self.e,
+            Some(Side::B) => i > self.n || j > self.f,
+            None => true,
         }
     }
 
@@ -208,10 +230,9 @@ impl Deck {
     {
         let at = usize::from(body[1]) * 17 + usize::from(body[2]);
         let value = number4(body, 3);
-        if body[0] == 0 {
-            self.a[at] = value;
-        } else {
-            self.b[at] = value;
+        match Side::of(body[0]) {
+            Some(Side::A) => self.a[at] = value,
+            _ => self.b[at] = value,
         }
     }
 }

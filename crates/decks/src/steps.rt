@@ -131,7 +131,8 @@ impl FitDeck {
         opening::strict(d.p, a, b)
     }
 
-    // The open job.
+    // The open job. That one is open stays a clause, here and where this is called: the test of a record tells the stage, and a
+    // state of the definition's record has no type of its own for it.
     fn job(&self) -> SoundJob
         requires { self.now.state.stage ≡ Opened }
         ensures { result.job ≡ self.now.state.job }

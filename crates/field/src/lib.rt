@@ -75,8 +75,8 @@ impl Modulus {
     }
 }
 
-// The four that follow, and mul_add, take p as a number, with what they ask of it beside it: `rows::subtract` and
-// `points::usable_at`, which docs/PROMISES.md names, call them with a p of which no more is known.
+// The five that follow take p as a number, and ask of it no more than that it bounds its remainders: `rows::subtract`,
+// `points::usable_at` and `plain::Matrix::determinant`, which docs/PROMISES.md names, know no more of it than that or 2 <= p.
 
 // a + b modulo p: the sum is made only where it stays below p
 pub fn add(p: u32, a: u32, b: u32) -> u32

@@ -9,6 +9,7 @@ ghost use Rattle.kernel.specs.Results.{RowResult, PlainResult, DivisionResult, D
 
 use checks::{Given, Refusal};
 use job::{Job, JobAnswer, ReadAnswer};
+use plain::Rows;
 
 // The answers are records of numbers, since C sees them.
 // value: the resultant. steps: the coefficient steps of the remainder sequence.
@@ -63,9 +64,9 @@ pub fn plain_determinant(p: u32, a: &[u32], b: &[u32]) -> PlainAnswer
     ensures { PlainResult p a.now b.now result }
 {
     match checks::plain(p, a, b) {
-        Ok(_) => PlainAnswer {
+        Ok(modulus) => PlainAnswer {
             number: 0,
-            value: plain::plain(p, a, b),
+            value: plain::plain(modulus, Rows { a, b }),
         },
         Err(refusal) => PlainAnswer {
             number: refusal.number(),
@@ -182,7 +183,7 @@ pub fn one_shot(
     reads::answer(reads::one_shot(p, a, b, out))
 }
 
-// A refusal, with the job that it hands back.
+// A refusal, with the job that it hands back; not a `From`, since neither type is this crate's.
 fn refused(refusal: Refusal, job: Job) -> JobAnswer
     ensures { result ≡ record { number = number_of refusal; job = job } }
 {

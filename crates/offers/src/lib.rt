@@ -25,7 +25,7 @@ pub enum Offer {
     Surplus,
 }
 
-// The number that an offer answers
+// The number that an offer answers; not a `From`, since neither the library's Result nor the number is this crate's
 pub fn answer(outcome: Result<Offer, Refusal>) -> u32
     ensures { result ≡ answer_of outcome }
 {
@@ -153,6 +153,7 @@ impl SoundJob {
         ensures job { self.new.job ≡ Calls.lotted self.old.job points.now }
         ensures bytes { answers.new ≡ Calls.lot_answers self.old.job points.now ++ drop (length points.now) answers.old }
     {
+        // by its index, since of what is written through `answers.iter_mut().zip(points)` a proof knows nothing
         for (i, a) in points.iter().enumerate() {
             answers[i] = answer(self.offer(*a)) as u8;
         }

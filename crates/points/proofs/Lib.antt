@@ -5,5 +5,5 @@ pub mod Searches
 pub mod Linear
 pub mod Newton
 pub mod Rows
-pub mod Counting
 pub mod WorkRows
+pub mod Ranges

@@ -3,11 +3,10 @@
 --   term_at       a term of a table of 289 entries is the entry at 17 i + j
 --   row-value     the value of a row up to the largest power that occurs is the value of the whole row
 --   row-stored    the values of the rows 0 to m, stored one by one
---   occurs_here, occurs_nowhere       whether a power of y occurs, by the entries
 use Prim.Native.Nat.{ℕ, suc, ◌+◌, ◌*◌, ◌<◌, ◌≤◌}
 use native.Mathlib.Numerals.{add-one}
 use native.Mathlib.Omega.{arith}
-use mathlib.Core.Bool.{Bool, true, false, cond}
+use mathlib.Core.Bool.{Bool, cond}
 use mathlib.Core.List.{List}
 use mathlib.Core.Path.{◌≡◌, sym, ap, ◌∙◌}
 use lib.ListN.{length, get_or, take, drop, length-drop}
@@ -20,12 +19,11 @@ use Rattle.residue.specs.Residue.{residues, res, val}
 use Rattle.residue.specs.ResidueLaws.{res-zero}
 use Rattle.polynomial.specs.Value.{value}
 use Rattle.polynomial.specs.ValueLaws.{value_ext, value_more}
-use Rattle.scope.specs.Pair.{place, term, occurs, polynomial}
+use Rattle.scope.specs.Pair.{place, term, polynomial}
 use Rattle.scope.specs.Point.{tabulate, value_at, row_at}
 use Rattle.points.specs.Table.{IsTable}
 use Rattle.points.specs.Step.{value_of}
 use Rattle.points.proofs.Stores.{Stored, stored_all}
-use Rattle.points.proofs.Searches.{some-nonzero, none-nonzero}
 
 pub term_at : (t : List ℕ) (i j : ℕ) → j ≤ 16 → term 16 t i j ≡ get_or t (i * 17 + j) 0
 unfolding term place
@@ -56,12 +54,3 @@ pub row-stored : (p m a : ℕ) (A : ℕ → ℕ → ℕ) {i : ℕ} {l k : List �
     → k ≡ row_at p m 16 A a
 unfolding row_at
 row-stored p m a A h e long = stored_all (λ r. value_at p 16 A r a) h e ∙ ap (λ (n : ℕ). tabulate n (λ r. value_at p 16 A r a)) (long ∙ add-one m)
-
-module _ (t : List ℕ) (m j : ℕ) (low : j ≤ 16) where
-  pub occurs_here : (i : ℕ) → i ≤ m → (get_or t (i * 17 + j) 0 ≡ 0 → ⊥) → true ≡ occurs m (term 16 t) j
-  unfolding occurs
-  occurs_here i l h = sym (some-nonzero (m + 1) (λ i. term 16 t i j) i (omega arith) (λ e. h (sym (term_at t i j low) ∙ e)))
-
-  pub occurs_nowhere : ((i : ℕ) → i < m + 1 → get_or t (i * 17 + j) 0 ≡ 0) → false ≡ occurs m (term 16 t) j
-  unfolding occurs
-  occurs_nowhere h = sym (none-nonzero (m + 1) (λ i. term 16 t i j) (λ i l. term_at t i j low ∙ h i l))

@@ -31,12 +31,7 @@ fn power_occurs(t: &[u32], m: usize, j: usize) -> bool
     requires j_bound { j ≤ 16 }
     ensures { result ≡ occurs m (term 16 t.now) j }
 {
-    for i in 0..m + 1 {
-        if t[i * 17 + j] != 0 {
-            return true;
-        }
-    }
-    false
+    (0..m + 1).any(|i| t[i * 17 + j] != 0)
 }
 
 // The largest power of y that really occurs in the rows up to m; 0 where none does
@@ -45,12 +40,7 @@ pub fn true_degree(t: &[u32], m: usize) -> usize
     requires m_bound { m ≤ 16 }
     ensures { result ≡ largest 16 (occurs m (term 16 t.now)) }
 {
-    for j in (1..17).rev() {
-        if power_occurs(t, m, j) {
-            return j;
-        }
-    }
-    0
+    (1..17).rev().find(|j| power_occurs(t, m, *j)).unwrap_or(0)
 }
 
 // A table of one polynomial, 17 places to a power of x: the coefficient of x^i y^j stands at 17 i + j. Its degree in x
@@ -79,8 +69,8 @@ impl Table<'_> {
         requires room { length out.old ≡ self.m + 1 }
         ensures { out.new ≡ row_at p self.entry.m 16 (term 16 self.entry.entries.now) a }
     {
-        for i in 0..out.len() {
-            out[i] = self.row_value(p, i, a);
+        for (i, value) in out.iter_mut().enumerate() {
+            *value = self.row_value(p, i, a);
         }
     }
 }
@@ -136,20 +126,14 @@ impl Pair<'_> {
     }
 
     // Whether at least `wanted` points below p are usable; it stops as soon as so many are found
-    #[tactic(auto, using(crate::proofs::Counting::counting))]
     pub fn has_usable(self, wanted: usize) -> bool
         ensures { result ≡ leb wanted (length (usables (pair_at self.entry) self.entry.p.value)) }
     {
-        let mut found: usize = 0;
-        for y in 0..self.p.value {
-            if found == wanted {
-                return true;
-            }
-            if self.usable(y) {
-                found += 1;
-            }
-        }
-        wanted <= found
+        let found = (0..self.p.value)
+            .filter(|y| self.usable(*y))
+            .take(wanted)
+            .count();
+        found == wanted
     }
 }
 
@@ -158,9 +142,9 @@ fn add_multiple(p: Modulus, c: u32, t: &[u32], out: &mut [u32])
     requires as_long { length out.old ≤ length t.now }
     ensures { out.new ≡ tabulate (length out.old) (plus_multiple p.value c t.now out.old) }
 {
-    // a `zip` with `iter_mut` was tried: the proof keeps nothing of `out` across its turns
-    for k in 0..out.len() {
-        out[k] = field::mul_add(p.value, c, t[k], out[k]);
+    // t by its index, since of what is written through `out.iter_mut().zip(t)` a proof knows nothing
+    for (k, value) in out.iter_mut().enumerate() {
+        *value = field::mul_add(p.value, c, t[k], *value);
     }
 }
 
@@ -206,11 +190,12 @@ fn next_point(p: Modulus, x: u32, v: u32, t: &mut [u32], out: &mut [u32])
     times_linear(p, x, t);
 }
 
-// The coefficients of the polynomial that takes vs[i] at xs[i]: Newton's rule, one point more each turn
+// The coefficients of the polynomial that takes vs[i] at xs[i]: Newton's rule, one point more each turn. Points and values
+// are two slices, since the job record, which C sees, holds them as two arrays.
 pub fn interpolate(p: Modulus, xs: &[u32], vs: &[u32], out: &mut [u32])
     requires few { length out.old ≤ 513 }
-    requires points { length xs.now ≡ length out.old }
-    requires values { length vs.now ≡ length out.old }
+    requires points { length out.old ≤ length xs.now }
+    requires values { length out.old ≤ length vs.now }
     requires different { Different p.value (length out.old) (λ i. get_or xs.now i 0) }
     requires values_below { (i : ℕ) → i < length out.old → get_or vs.now i 0 < p.value }
     ensures { out.new ≡ tabulate (length out.old) (λ k. val p.value (newton (residues p.value) (inv p.value) (λ i. res p.value (get_or xs.now i 0)) (λ i. res p.value (get_or vs.now i 0)) (length out.old) k)) }
@@ -228,5 +213,5 @@ pub fn degree(coefficients: &[u32]) -> Option<usize>
     ensures bound { IfSome result (λ k. k < length coefficients.now) }
     ensures value { result ≡ cond (some (length coefficients.now) (λ k. not (eqb (get_or coefficients.now k 0) 0))) (Some (largest (length coefficients.now - 1) (λ k. not (eqb (get_or coefficients.now k 0) 0)))) None }
 {
-    coefficients.iter().rposition(|c| *c != 0)
+    rows::true_length(coefficients).checked_sub(1)
 }

@@ -14,7 +14,8 @@ use checks::{Given, Refusal};
 use job::ReadAnswer;
 use offers::SoundJob;
 
-// What a read answers: the degree is None where the polynomial is zero
+// What a read answers: the degree is None where the polynomial is zero. Not a `From`, since neither the library's Result nor
+// the answer is this crate's.
 pub fn answer(outcome: Result<Option<u32>, Refusal>) -> ReadAnswer
     ensures { result ≡ answered outcome }
 {

@@ -17,6 +17,9 @@ ghost use Rattle.rows.specs.Last.{last_row, row_sequence, swapped, Lies};
 
 use field::Modulus;
 
+// What is asked of rows, `Below`, `IsRow` and `IsDeclared`, stands in clauses and in no type: rows are worked on in place,
+// and are no such rows meanwhile. The two that are only read, those of `resultant`, are copied into such.
+
 // part[i] - q * b[i] for every entry of b, each in its place
 pub fn subtract(p: u32, q: u32, part: &mut [u32], b: &[u32])
     requires room { length b.now ≤ length part.old }
@@ -69,7 +72,7 @@ pub fn divide(p: Modulus, row: &mut [u32], b: &[u32]) -> u32
 }
 
 // How many entries are left when the zeros at the end are cut off
-fn true_length(r: &[u32]) -> usize
+pub fn true_length(r: &[u32]) -> usize
     ensures { result ≡ length (trim r.now) }
 {
     match r.iter().rposition(|x| *x != 0) {

@@ -88,7 +88,8 @@ fn kept_pair(pair: Pair, before: &[u32], a: u32, value: u32) -> bool
     a < pair.p.value && !before.contains(&a) && pair.usable(a) && value == pair.kept(a)
 }
 
-// Whether each of the pairs would have been kept
+// Whether each of the pairs would have been kept; points and values come as two slices, since the job record, which C
+// sees, holds them as two arrays
 fn kept_pairs(pair: Pair, points: &[u32], values: &[u32]) -> bool
     requires { length points.now ≡ length values.now }
     ensures { result ≡ kept_pairs (pair_at pair.entry) points.now values.now }

@@ -5,12 +5,12 @@ use Rattle.plain.proofs.Entries.{size_most, table-determinant}
 use Rattle.plain.proofs.plain.Goals as goal
 
 pub slice_bounds-columns-end : goal.slice_bounds-columns-end
-slice_bounds-columns-end c = size_most c.args.a.now c.args.b.now c.requires.a_some c.requires.b_some c.requires.small
+slice_bounds-columns-end c = size_most c.args.rows.a.now c.args.rows.b.now c.args.rows.a_some c.args.rows.b_some c.requires
 
 pub slice_bounds-determinant-end : goal.slice_bounds-determinant-end
 slice_bounds-determinant-end c =
-    sym (length-take-le _ _ (size_most c.args.a.now c.args.b.now c.requires.a_some c.requires.b_some c.requires.small))
+    sym (length-take-le _ _ (size_most c.args.rows.a.now c.args.rows.b.now c.args.rows.a_some c.args.rows.b_some c.requires))
 
 pub returns : goal.returns
 returns c =
-    table-determinant _ _ _ c.fill-table.result c.requires.a_some c.requires.b_some c.requires.small c.fill-table.ensures c.determinant.ensures
+    table-determinant _ _ _ c.cells.result c.args.rows.a_some c.args.rows.b_some c.requires c.cells.ensures c.determinant.ensures

@@ -1,13 +1,21 @@
 -- `points::interpolate`: each turn takes in one point.
 use native.Mathlib.Omega.{arith}
-use mathlib.Core.Path.{refl, sym, ap, ◌∙◌}
-use Rattle.std.proofs.Common.{replicate}
+use mathlib.Core.List.{List}
+use mathlib.Core.Path.{◌≡◌, refl, sym, ap, ◌∙◌}
+use lib.ListN.{length}
+use Rattle.std.proofs.Common.{ℕ, replicate}
+use Rattle.std.proofs.lemmas.List.{length-replicate}
 use Rattle.points.proofs.Newton.{reached_first, reached-small, reached-nonzero, reached-front, reached-next, reached-last}
 use Rattle.points.proofs.interpolate.Goals as goal
 
+-- `fill` keeps the length
+filled : {l : List ℕ} {n : ℕ} → l ≡ replicate n 0 → length l ≡ n
+filled {n = n} e = ap length e ∙ length-replicate {A = ℕ} n 0
+
 pub loop-n-init : goal.loop-n-init
 loop-n-init c =
-    reached_first _ _ _ _ c.args.p.least (c.fill.ensures.after (λ y e. e) ∙ ap (λ n. replicate n 0) (sym c.requires.points)) refl
+    let zeros = c.fill.ensures.after (λ y e. e) in
+    reached_first _ _ _ _ c.args.p.least (zeros ∙ ap (λ n. replicate n 0) (sym (filled zeros))) refl
 
 pub loop-n-preserved : goal.loop-n-preserved
 loop-n-preserved c =
@@ -19,7 +27,8 @@ next_point-requires-clause-t_below c = reached-small _ _ _ _ c.args.p.least c.lo
 pub next_point-requires-clause-t_nonzero : goal.next_point-requires-clause-t_nonzero
 next_point-requires-clause-t_nonzero c =
     reached-front _ _ _ _ c.args.p.least c.loop-n.invariant (omega arith) (omega arith)
-    (reached-nonzero _ _ _ _ c.args.p.least c.loop-n.invariant (omega arith) (omega arith) c.args.p.prime (rw c.requires.points c.requires.different))
+    (reached-nonzero _ _ _ _ c.args.p.least c.loop-n.invariant (omega arith) (omega arith) c.args.p.prime
+    (rw (filled (c.fill.ensures.after (λ y e. e))) c.requires.different))
 
 pub returns : goal.returns
-returns c = rw (← c.requires.points) (reached-last _ _ _ _ c.loop-n.invariant (omega arith))
+returns c = rw (← filled (c.fill.ensures.after (λ y e. e))) (reached-last _ _ _ _ c.loop-n.invariant (omega arith))

@@ -1,11 +1,13 @@
--- `points::true_degree`: each turn rules out one power, from the top down.
-use native.Mathlib.Omega.{arith}
-use mathlib.Core.Path.{◌∙◌, sym}
-use Rattle.points.proofs.Searches.{above_found, above_none}
+-- `points::true_degree`: the powers from the top down, up to the first that occurs.
+use Rattle.std.proofs.Common.{rules, tests, arith, ◌∙◌}
+use Rattle.std.proofs.lemmas.Iterator.Search.{find_from_yields_List}
+use Rattle.scope.specs.Pair.{term, occurs}
+use Rattle.points.proofs.Ranges.{YieldsList-from_range_back, largest_found}
 use Rattle.points.proofs.true_degree.Goals as goal
 
-pub returns-then-power_occurs : goal.returns-then-power_occurs
-returns-then-power_occurs c = above_found _ _ c.loop-j.invariant (sym c.power_occurs.ensures ∙ c.if-power_occurs.true)
-
 pub returns : goal.returns
-returns c = above_none _ _ c.loop-j.invariant (omega arith)
+returns c =
+    c.unwrap_or.ensures
+    ∙ largest_found 16 (occurs c.args.m (term 16 c.args.t.now)) c.find.result
+    (find_from_yields_List (occurs c.args.m (term 16 c.args.t.now)) _ _ c.find.result c.find.ensures.ran
+    (YieldsList-from_range_back 1 17 16 c.rev.ensures.source (omega arith)) (λ x b q k. search (rules, tests)))

@@ -8,17 +8,17 @@ pub loop-turn-init : goal.loop-turn-init
 loop-turn-init g c = record { few = omega arith; keeps = keeps_start _ _ _ c.requires.0 c.requires.1 }
 
 pub returns : goal.returns
-returns g c = played_spent _ _ _ _ _ c.loop-turn.invariant.keeps
+returns g c = played_spent _ _ _ _ _ _ c.loop-turn.invariant.keeps (omega arith)
 
 pub returns-in_err-turn : goal.returns-in_err-turn
 returns-in_err-turn g c =
     let p = err_from_is_err_and c.from_residual.result c.from_residual.ensures.1 in
     rw (p.1, p.2)
-    (played_failed _ _ _ _ _ _ _ c.turn.new.self _ c.turn.result c.loop-turn.invariant.keeps c.turn.ensures c.in_err-turn.field-0.0 c.in_err-turn.was)
+    (played_failed _ _ _ _ _ _ _ _ c.turn.new.self _ _ c.turn.result c.loop-turn.invariant.keeps c.turn.ensures c.in_err-turn.field-0.0 c.in_err-turn.was)
 
 pub returns-then-branch : goal.returns-then-branch
 returns-then-branch g c =
-    played_stopped _ _ _ _ _ _ _ c.turn.new.self _ c.turn.result c.loop-turn.invariant.keeps c.turn.ensures
+    played_stopped _ _ _ _ _ _ _ _ c.turn.new.self _ _ c.turn.result c.loop-turn.invariant.keeps c.turn.ensures
     (c.in_ok-turn.was ∙ ap (λ (stops : Bool). Ok stops) c.if-branch.true)
 
 pub loop-turn-preserved : goal.loop-turn-preserved
@@ -26,6 +26,6 @@ loop-turn-preserved g c =
     let turn = c.turn.ensures in record {
       few = omega (arith, turn.goes.offset, past_low turn.arrival);
       keeps =
-          keeps_on _ _ _ _ _ _ _ c.turn.new.self _ c.turn.result c.loop-turn.invariant.keeps turn
+          keeps_on _ _ _ _ _ _ _ _ c.turn.new.self _ _ c.turn.result c.loop-turn.invariant.keeps turn
           (c.in_ok-turn.was ∙ ap (λ (stops : Bool). Ok stops) c.if-branch.false);
     }

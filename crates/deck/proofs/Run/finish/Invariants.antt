@@ -9,5 +9,5 @@ invariant-loop-turn g l =
     record {
       few : l.self.offset ≤ 8 * l._turn;
       keeps :
-          Keeps (g.R.Read.remaining l.fn.input) (g.R.Read.remaining l.input) (g.W.Write.contents l.fn.output) (g.W.Write.contents l.output) l.self;
+          Keeps (g.R.Read.remaining l.fn.input) (g.R.Read.remaining l.input) (g.W.Write.contents l.fn.output) (g.W.Write.contents l.output) l._turn l.self;
     }

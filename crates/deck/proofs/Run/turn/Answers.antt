@@ -1,4 +1,5 @@
 -- `deck::Run::turn`: a failed read leaves the writer as it was.
+use Rattle.std.proofs.Common.{rules}
 use Rattle.std.proofs.lemmas.Result.{err_from_is_err_and}
 use Rattle.deck.specs.RunLaws.{turned_unread}
 use Rattle.deck.proofs.Run.turn.Goals as goal
@@ -7,4 +8,4 @@ pub returns-in_err-stops : goal.returns-in_err-stops
 returns-in_err-stops g c =
     let p = err_from_is_err_and c.from_residual.result c.from_residual.ensures.1 in
     rw (p.1, p.2)
-    (turned_unread _ _ c.next_record-arrival.result _ c.in_err-stops.field-0.0 _ _ _ c.in_err-stops.ensures c.next_record-arrival.ensures.arrives c.next_record-arrival.ensures.bytes)
+    (turned_unread _ _ _ _ _ c.in_err-stops.field-0.0 _ _ _ c.in_err-stops.ensures (search rules) (search rules) (search rules))

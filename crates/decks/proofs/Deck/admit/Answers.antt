@@ -1,5 +1,6 @@
 -- `decks::Deck::admit`: each return is the first refusal that the tests find.
 use Rattle.std.proofs.Common.{ℕ, ◌<◌, ◌≤◌, Bool, true, false, not, ◌&&◌, List, ◌≡◌, refl, sym, ap, ◌∙◌, arith, length}
+use Rattle.std.proofs.lemmas.Result.{err_from_is_err_and}
 use borrow.Author.Tests.{lt-ltb, le-ltb}
 use Rattle.std.proofs.Math.Dec.{eqb}
 use Rattle.scope.specs.Number.{◌gives◌otherwise◌}
@@ -48,47 +49,49 @@ module _ (d : Deck) (n : Kind) (k : ℕ) (body : List ℕ) (kind : kind_number n
       (number-shape d (kind_number n) body
       (record { kind = in_table n; whole = le-ltb (length body) (body_length (kind_number n)) h; order = ap not o }))
 
-pub returns-in_default : goal.returns-in_default
-returns-in_default c = number_unknown c.args.self.now c.args.kind c.args.body.now (ap not c.in_default.ensures)
+pub returns-in_err-known : goal.returns-in_err-known
+returns-in_err-known c =
+    let p = err_from_is_err_and c.from_residual.result c.from_residual.ensures.1 in
+    rw (p.1, p.2, c.in_err-known.ensures.0) (number_unknown c.args.self.now c.args.kind c.args.body.now (ap not c.in_err-known.ensures.1))
 
 pub returns-then-body-body_length : goal.returns-then-body-body_length
-returns-then-body-body_length c = cut c.args.self.now c.in-Some.known c.args.kind c.args.body.now c.in-Some.ensures (omega arith)
+returns-then-body-body_length c = cut c.args.self.now c.in_ok-known.known c.args.kind c.args.body.now c.in_ok-known.ensures (omega arith)
 
 pub returns-then-not-admits : goal.returns-then-not-admits
 returns-then-not-admits c =
-    disorder c.args.self.now c.in-Some.known c.args.kind c.args.body.now c.in-Some.ensures (omega arith) (sym c.admits.ensures ∙ c.if-not-admits.true)
+    disorder c.args.self.now c.in_ok-known.known c.args.kind c.args.body.now c.in_ok-known.ensures (omega arith) (sym c.admits.ensures ∙ c.if-not-admits.true)
 
 pub returns-then-too_high : goal.returns-then-too_high
 unfolding ◌gives◌otherwise◌ shape
 returns-then-too_high c =
-    here c.args.self.now c.in-Some.known c.args.kind c.args.body.now c.in-Some.ensures (omega arith) (sym c.admits.ensures ∙ c.if-not-admits.false)
+    here c.args.self.now c.in_ok-known.known c.args.kind c.args.body.now c.in_ok-known.ensures (omega arith) (sym c.admits.ensures ∙ c.if-not-admits.false)
     ∙ rw (c.in-Degrees.is, ← c.too_high.ensures, c.if-too_high.true) refl
 
 pub returns-then-astray : goal.returns-then-astray
 unfolding ◌gives◌otherwise◌ shape
 returns-then-astray c =
-    here c.args.self.now c.in-Some.known c.args.kind c.args.body.now c.in-Some.ensures (omega arith) (sym c.admits.ensures ∙ c.if-not-admits.false)
+    here c.args.self.now c.in_ok-known.known c.args.kind c.args.body.now c.in_ok-known.ensures (omega arith) (sym c.admits.ensures ∙ c.if-not-admits.false)
     ∙ rw (c.in-Place.is, ← c.astray.ensures, c.if-astray.true) refl
 
 pub returns-else-too_high : goal.returns-else-too_high
 unfolding ◌gives◌otherwise◌ shape
 returns-else-too_high c = (
-  c.in-Some.ensures,
-  here c.args.self.now c.in-Some.known c.args.kind c.args.body.now c.in-Some.ensures (omega arith) (sym c.admits.ensures ∙ c.if-not-admits.false)
+  c.in_ok-known.ensures,
+  here c.args.self.now c.in_ok-known.known c.args.kind c.args.body.now c.in_ok-known.ensures (omega arith) (sym c.admits.ensures ∙ c.if-not-admits.false)
       ∙ rw (c.in-Degrees.is, ← c.too_high.ensures, c.if-too_high.false) refl,
 )
 
 pub returns-else-astray : goal.returns-else-astray
 unfolding ◌gives◌otherwise◌ shape
 returns-else-astray c = (
-  c.in-Some.ensures,
-  here c.args.self.now c.in-Some.known c.args.kind c.args.body.now c.in-Some.ensures (omega arith) (sym c.admits.ensures ∙ c.if-not-admits.false)
+  c.in_ok-known.ensures,
+  here c.args.self.now c.in_ok-known.known c.args.kind c.args.body.now c.in_ok-known.ensures (omega arith) (sym c.admits.ensures ∙ c.if-not-admits.false)
       ∙ rw (c.in-Place.is, ← c.astray.ensures, c.if-astray.false) refl,
 )
 
-pub returns-in_default-known : goal.returns-in_default-known
-returns-in_default-known c = (
-  c.in-Some.ensures,
-  here c.args.self.now c.in-Some.known c.args.kind c.args.body.now c.in-Some.ensures (omega arith) (sym c.admits.ensures ∙ c.if-not-admits.false)
-      ∙ shape-others c.in-Some.known _ _ c.in_default-known.not-Degrees c.in_default-known.not-Place,
+pub returns-in_default : goal.returns-in_default
+returns-in_default c = (
+  c.in_ok-known.ensures,
+  here c.args.self.now c.in_ok-known.known c.args.kind c.args.body.now c.in_ok-known.ensures (omega arith) (sym c.admits.ensures ∙ c.if-not-admits.false)
+      ∙ shape-others c.in_ok-known.known _ _ c.in_default.not-Degrees c.in_default.not-Place,
 )

@@ -1,9 +1,9 @@
--- `plain::determinant` and `plain::term`, which call each other. The determinant asks for terms in the same columns, and a
+-- `plain::Matrix::determinant` and `plain::Matrix::term`, which call each other. The determinant asks for terms in the same columns, and a
 -- term for a determinant in one column less: twice the number of columns falls, with one more for the determinant.
 use Rattle.std.proofs.Common.{arith, rules}
 use Rattle.plain.proofs.Columns.{one_fewer, fewer_columns}
 use Rattle.plain.proofs.Terms.{summed_first, summed-next, summed-last, det_none, val-below, term_even, term_odd}
-use Rattle.plain.proofs.+determinant_term.Goals as goal
+use Rattle.plain.proofs.Matrix.+determinant_term.Goals as goal
 
 pub determinant-returns-then-is_empty : goal.determinant-returns-then-is_empty
 determinant-returns-then-is_empty t c = det_none _ (omega arith) _ _ (search rules)
@@ -27,7 +27,7 @@ determinant-returns t c = summed-last _ _ _ _ c.loop-j.invariant (search rules) 
 pub term-determinant-minor-requires : goal.term-determinant-minor-requires
 term-determinant-minor-requires t c =
     let fewer = one_fewer c.args.cols.now c.args.j c.requires.j_below c.without.ensures in
-    (omega arith, (omega arith, (omega arith, fewer_columns _ _ c.requires.j_below c.without.ensures c.requires.columns)))
+    (omega arith, (omega arith, fewer_columns _ _ c.requires.j_below c.without.ensures c.requires.columns))
 
 pub term-returns-then-j-eq0 : goal.term-returns-then-j-eq0
 term-returns-then-j-eq0 t c =
