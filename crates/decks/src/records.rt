@@ -136,7 +136,7 @@ pub fn number4(body: &[u8], at: usize) -> u32
     u32::from_le_bytes([body[at], body[at + 1], body[at + 2], body[at + 3]])
 }
 
-// A degree above 16 among the four of a body.
+// A degree above 16 among the four of a body. How long a body is at least stands in clauses: `admit` tests it, by its kind.
 fn too_high(body: &[u8]) -> bool
     requires { 3 < length body.now }
     ensures { result ≡ steep body.now }
@@ -162,7 +162,7 @@ impl Deck {
         }
     }
 
-    // The kind of a record of which `body` arrived, or why it is refused.
+    // The kind of a record of which `body` arrived, or why it is refused. `kind` is the byte that arrived.
     pub fn admit(&self, kind: u8, body: &[u8]) -> Result<Kind, Refusal>
         ensures { Admits self.now kind body.now result }
     {
