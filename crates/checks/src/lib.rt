@@ -157,7 +157,8 @@ impl<'a> Given<'a> {
         too_high(self.m) || too_high(self.e)
     }
 
-    // Length: None for a table of another length than its degrees ask
+    // Length: None for a table of another length than its degrees ask. That they are at most 16 is asked for, since the degrees
+    // of both tables are tested before the length of either.
     #[tactic(auto, unfolding(scope::specs::Number::misfit, scope::specs::Pair::size))]
     pub fn fitting(self) -> Option<Sheet<'a>>
         requires m_low { self.m ≤ 16 }
@@ -265,7 +266,7 @@ pub fn plain(p: u32, a: &[u32], b: &[u32]) -> Result<Modulus, Refusal>
     Ok(q)
 }
 
-// Division in the work row: 2, 3, 4, 6, 15
+// Division in the work row: 2, 3, 4, 6, 15; other tests than those of `row`
 #[tactic(auto, using(crate::proofs::Chain::chain, crate::specs::Parts::division_parts))]
 pub fn division(p: u32, row: &[u32], b: &[u32]) -> Result<Modulus, Refusal>
     ensures number { outcome result ≡ Number.division_number p row.now b.now }

@@ -4,8 +4,9 @@
 --   side_number s        the first byte of a place's body
 --   refusal_number r     the number that a refused record prints
 --   Names k r            r is the kind of this number, or that there is none
+--   Sides s r            r is the side of this number, or that there is none
 --   Admits d k body r    what the test of a record answers: its kind, where it is not refused
-use Rattle.std.specs.Prelude.{ℕ, false, List, Result, Ok, Err, ◌≡◌}
+use Rattle.std.specs.Prelude.{ℕ, ◌<◌, false, List, Result, Ok, Err, ◌≡◌}
 use Rattle.decks.specs.declared.Deck.{Deck}
 use Rattle.decks.specs.declared.records.Kind.{Kind}
 use Rattle.decks.specs.declared.records.Kind.TheVariants.{Modulus, Degrees, Place, Open, Point, Read}
@@ -37,6 +38,10 @@ refusal_number Astray = 24
 abbrev pub Names : ℕ → Result Kind Refusal → Type 0
 Names k (Ok kind) = kind_number kind ≡ k
 Names k (Err r) = (r ≡ Unknown) × (known k ≡ false)
+
+abbrev pub Sides : ℕ → Result Side Refusal → Type 0
+Sides s (Ok side) = side_number side ≡ s
+Sides s (Err r) = (r ≡ Astray) × (1 < s)
 
 abbrev pub Admits : Deck → ℕ → List ℕ → Result Kind Refusal → Type 0
 Admits d k body (Ok kind) = (kind_number kind ≡ k) × (deck_number d k body ≡ 0)

@@ -15,7 +15,8 @@ pub enum Stage {
     Opened,
 }
 
-// The coefficient of x^i y^j of A stands at 17 i + j of `a`, and so for B.
+// The degrees and the table of A are m, e and `a`, those of B n, f and `b`, as the definition names them. The coefficient of
+// x^i y^j of A stands at 17 i + j of `a`, and so for B.
 #[derive(Clone, Copy)]
 pub struct Deck {
     pub stage: Stage,

@@ -1,10 +1,10 @@
 // The records of a deck that need no job: what refuses one, and the state after it.
 #![tactic(auto, unfolding(crate::specs::Deck::known, crate::specs::Deck::body_length, crate::specs::Deck::byte, crate::specs::Deck::number4, crate::specs::Deck::in_order, crate::specs::Deck::astray, crate::specs::Deck::with_modulus, crate::specs::Deck::with_degrees, crate::specs::Deck::with_place, crate::specs::Deck::fresh, crate::specs::Refusal::steep, scope::specs::Number::too_high, scope::specs::Pair::place))]
 
-ghost use Rattle.std.specs.Prelude.{◌+◌, ◌*◌, ◌<◌, ◌≡◌, length, MatchOption};
+ghost use Rattle.std.specs.Prelude.{◌+◌, ◌*◌, ◌<◌, ◌≡◌, length};
 ghost use Rattle.decks.specs.Deck.{body_length, byte, number4 as Deck·number4, in_order, astray as Deck·astray, with_modulus, with_degrees, with_place, fresh};
 ghost use Rattle.decks.specs.Refusal.{steep};
-ghost use Rattle.decks.specs.Kind.{kind_number, side_number, refusal_number, Names, Admits};
+ghost use Rattle.decks.specs.Kind.{kind_number, refusal_number, Names, Sides, Admits};
 
 use crate::{Deck, Stage};
 use job::Job;
@@ -89,15 +89,17 @@ impl Refusal {
     }
 }
 
-impl Side {
-    // The side with this number, where there is one.
-    fn of(number: u8) -> Option<Side>
-        ensures { MatchOption result (1 < number) (λ side. side_number side ≡ number) }
-    {
+// The side with this number, or that it is outside the shape.
+impl TryFrom<u8> for Side {
+    type Error = Refusal;
+
+    ghost try_from_gives = { Sides };
+
+    fn try_from(number: u8) -> Result<Side, Refusal> {
         match number {
-            0 => Some(Side::A),
-            1 => Some(Side::B),
-            _ => None,
+            0 => Ok(Side::A),
+            1 => Ok(Side::B),
+            _ => Err(Refusal::Astray),
         }
     }
 }
@@ -134,7 +136,7 @@ pub fn number4(body: &[u8], at: usize) -> u32
     u32::from_le_bytes([body[at], body[at + 1], body[at + 2], body[at + 3]])
 }
 
-// A degree above 16 among the four of a body.
+// A degree above 16 among the four of a body. How long a body is at least stands in clauses: `admit` tests it, by its kind.
 fn too_high(body: &[u8]) -> bool
     requires { 3 < length body.now }
     ensures { result ≡ steep body.now }
@@ -160,7 +162,7 @@ impl Deck {
         }
     }
 
-    // The kind of a record of which `body` arrived, or why it is refused.
+    // The kind of a record of which `body` arrived, or why it is refused. `kind` is the byte that arrived.
     pub fn admit(&self, kind: u8, body: &[u8]) -> Result<Kind, Refusal>
         ensures { Admits self.now kind body.now result }
     {
@@ -194,10 +196,10 @@ impl Deck {
     {
         let i = u32::from(body[1]);
         let j = u32::from(body[2]);
-        match Side::of(body[0]) {
-            Some(Side::A) => i > self.m || j > self.e,
-            Some(Side::B) => i > self.n || j > self.f,
-            None => true,
+        match Side::try_from(body[0]) {
+            Ok(Side::A) => i > self.m || j > self.e,
+            Ok(Side::B) => i > self.n || j > self.f,
+            Err(_) => true,
         }
     }
 
@@ -230,8 +232,8 @@ impl Deck {
     {
         let at = usize::from(body[1]) * 17 + usize::from(body[2]);
         let value = number4(body, 3);
-        match Side::of(body[0]) {
-            Some(Side::A) => self.a[at] = value,
+        match Side::try_from(body[0]) {
+            Ok(Side::A) => self.a[at] = value,
             _ => self.b[at] = value,
         }
     }

@@ -34,7 +34,8 @@ impl FitDeck {
     }
 
     // The record of this kind whose kind byte is at `offset`, and of whose body `body` arrived: its line, in place of what the
-    // buffer held, and whether the run stops after it.
+    // buffer held, and whether the run stops after it. The kind is the byte that arrived and may be no kind; kind and body may
+    // come from any reader, so they are no record of `stream`; and how large the buffer is, 5707 bytes at least, is the caller's.
     pub fn step<const CAP: usize>(
         &mut self,
         kind: u8,

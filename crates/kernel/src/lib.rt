@@ -75,7 +75,8 @@ pub fn plain_determinant(p: u32, a: &[u32], b: &[u32]) -> PlainAnswer
     }
 }
 
-// Division in the work row: remainder and quotient take the dividend's place.
+// Division in the work row: remainder and quotient take the dividend's place. It answers another record than the plain
+// determinant, and works in place.
 #[tactic(auto, using(crate::specs::RowLaws::row_laws))]
 pub fn divide(p: u32, row: &mut [u32], b: &[u32]) -> DivisionAnswer
     ensures { DivisionResult p row.old b.now result row.new }
@@ -99,7 +100,8 @@ pub fn divisor<'a>(a: &'a [u32], b: &'a [u32]) -> &'a [u32]
     rows::divisor(a, b)
 }
 
-// Opens a job on A of degrees m in x and e in y, and B of degrees n and f; the strict opening.
+// Opens a job on A of degrees m in x and e in y, and B of degrees n and f; the strict opening. Its parameters, and those of
+// `one_shot`, are those of the scope, as C has them.
 pub fn open(p: u32, m: u32, e: u32, n: u32, f: u32, a: &[u32], b: &[u32]) -> JobAnswer
     ensures { OpenResult p m e n f a.now b.now result }
 {

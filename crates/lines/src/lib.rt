@@ -44,7 +44,8 @@ pub enum Line<'a> {
 }
 
 impl Line<'_> {
-    // The line, in place of what the buffer held.
+    // The line, in place of what the buffer held. Not a `Display`: that promises its text only where it answers Ok, and this
+    // cannot fail.
     pub fn write<const CAP: usize>(&self, out: &mut ArrayString<CAP>)
         requires { line_room self.now ≤ CAP }
         ensures { out.new.bytes ≡ line_text self.now }

@@ -18,6 +18,7 @@ pub fn spread(sheet: Sheet) -> [u32; 289]
     let Given { m, e, entries } = sheet.given;
     let row = e as usize + 1;
     let mut out = [0u32; 289];
+    // rows are 17 apart in one and e + 1 in the other; of what is written through `chunks_mut` a proof knows nothing
     for i in 0..m as usize + 1 {
         out[i * 17..i * 17 + row].copy_from_slice(&entries[i * row..i * row + row]);
     }

@@ -18,7 +18,7 @@ pub enum Stop {
     Failed,
 }
 
-// What came of a stretch that was cut short.
+// What came of a stretch that was cut short: how many bytes, and why no more.
 #[derive(Clone, Copy)]
 pub struct Short {
     pub count: usize,
