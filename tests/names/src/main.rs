@@ -1,8 +1,10 @@
 //! Holds the documents to the crates: every name in the tables of docs/PROMISES.md and in the README's table of crates
-//! stands where it says, and every public call has a row, a uniqueness theorem, two wrong programs and no `requires`.
+//! stands where it says, every public call has a row, a uniqueness theorem, two wrong programs and no `requires`, and each
+//! file of docs/READING.md has as many lines as it says. `names reading` prints that table with the numbers as they are.
 
 mod call;
 mod house;
+mod reading;
 
 use house::{House, Place};
 use std::path::Path;
@@ -10,6 +12,13 @@ use std::path::Path;
 fn main() {
     let root = Path::new(env!("CARGO_MANIFEST_DIR")).join("../..");
     let house = House::read(&root).expect("the crates can be read");
+    let reading = reading::rows(&house);
+    if std::env::args().nth(1).as_deref() == Some("reading") {
+        for (_, right) in reading {
+            println!("{right}");
+        }
+        return;
+    }
     let promises = house.text("docs/PROMISES.md");
     let readme = house.text("README.md");
     // the tables above this one hold bytes and lines of a deck
@@ -44,6 +53,9 @@ fn main() {
         for (holds, want) in call.checks(&house, &promises) {
             count(holds, &format!("kernel::{}: {want}", call.name));
         }
+    }
+    for (stands, right) in &reading {
+        count(stands == right, &format!("docs/READING.md: {right}"));
     }
     println!("{passed} passed, {failed} failed");
     if failed > 0 {
