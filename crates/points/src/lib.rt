@@ -25,8 +25,7 @@ pub fn value_at(p: u32, coefficients: &[u32], a: u32) -> u32
 }
 
 // Whether y^j stands in some row up to m
-fn power_occurs(t: &[u32], m: usize, j: usize) -> bool
-    requires t_len { length t.now ≡ 289 }
+fn power_occurs(t: &[u32; 289], m: usize, j: usize) -> bool
     requires m_bound { m ≤ 16 }
     requires j_bound { j ≤ 16 }
     ensures { result ≡ occurs m (term 16 t.now) j }
@@ -35,9 +34,8 @@ fn power_occurs(t: &[u32], m: usize, j: usize) -> bool
 }
 
 // The largest power of y that really occurs in the rows up to m; 0 where none does
-pub fn true_degree(t: &[u32], m: usize) -> usize
-    requires t_len { length t.now ≡ 289 }
-    requires m_bound { m ≤ 16 }
+pub fn true_degree(t: &[u32; 289], m: usize) -> usize
+    requires { m ≤ 16 }
     ensures { result ≡ largest 16 (occurs m (term 16 t.now)) }
 {
     (1..17).rev().find(|j| power_occurs(t, m, *j)).unwrap_or(0)
@@ -47,7 +45,7 @@ pub fn true_degree(t: &[u32], m: usize) -> usize
 // is m, and no power of y above d occurs.
 #[derive(Clone, Copy)]
 pub struct Table<'a> {
-    pub entries: &'a [u32],
+    pub entries: &'a [u32; 289],
     pub m: usize,
     pub d: usize,
     pub ghost fits: { IsTable m d entries.now } by { IsTable-prop m d entries.now },
@@ -60,7 +58,8 @@ impl Table<'_> {
         requires row { i ≤ self.m }
         ensures { result ≡ Rattle.scope.specs.Point.value_at p 16 (term 16 self.entry.entries.now) i a }
     {
-        value_at(p, &self.entries[i * 17..=i * 17 + self.d], a)
+        let entries = self.entries;
+        value_at(p, &entries[i * 17..=i * 17 + self.d], a)
     }
 
     // The rows at y = a, lowest power of x first
