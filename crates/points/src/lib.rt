@@ -30,6 +30,7 @@ fn power_occurs(t: &[u32; 289], m: usize, j: usize) -> bool
     requires j_bound { j ≤ 16 }
     ensures { result ≡ occurs m (term 16 t.now) j }
 {
+    // one place of each row: the rows are 17 apart, so it goes over their numbers
     (0..m + 1).any(|i| t[i * 17 + j] != 0)
 }
 
@@ -63,13 +64,12 @@ impl Table<'_> {
     }
 
     // The rows at y = a, lowest power of x first
-    fn row_at(self, p: u32, a: u32, out: &mut [u32])
-        requires p_nonzero { 0 < p }
-        requires room { length out.old ≡ self.m + 1 }
-        ensures { out.new ≡ row_at p self.entry.m 16 (term 16 self.entry.entries.now) a }
+    fn row_at(self, p: Modulus, a: u32, out: &mut [u32])
+        requires { length out.old ≡ self.m + 1 }
+        ensures { out.new ≡ row_at p.value self.entry.m 16 (term 16 self.entry.entries.now) a }
     {
         for (i, value) in out.iter_mut().enumerate() {
-            *value = self.row_value(p, i, a);
+            *value = self.row_value(p.value, i, a);
         }
     }
 }
@@ -119,8 +119,8 @@ impl Pair<'_> {
         let mut w = [0u32; 17];
         let u = &mut u[..self.a.m + 1];
         let w = &mut w[..self.b.m + 1];
-        self.a.row_at(self.p.value, y, u);
-        self.b.row_at(self.p.value, y, w);
+        self.a.row_at(self.p, y, u);
+        self.b.row_at(self.p, y, w);
         rows::determinant_in(self.p, u, w)
     }
 
@@ -135,6 +135,9 @@ impl Pair<'_> {
         found == wanted
     }
 }
+
+// The four functions from here on hand p, x, v and both slices on, and each takes what it uses: a struct of two slices that
+// are written in turn would have to say in each method which of both stays.
 
 // out + c * t modulo p, entry by entry of out
 fn add_multiple(p: Modulus, c: u32, t: &[u32], out: &mut [u32])
@@ -154,6 +157,7 @@ fn times_linear(p: Modulus, x: u32, t: &mut [u32])
     requires t_below { (k : ℕ) → k < length t.old → get_or t.old k 0 < p.value }
     ensures { t.new ≡ tabulate (length t.old) (times_linear p.value x t.old) }
 {
+    // each turn reads the place that the next one writes, so the range is walked and not the slice
     for k in (1..t.len()).rev() {
         t[k] = field::mul_sub(p.value, t[k - 1], x, t[k]);
     }
@@ -202,6 +206,7 @@ pub fn interpolate(p: Modulus, xs: &[u32], vs: &[u32], out: &mut [u32])
     out.fill(0);
     let mut product = [0u32; 514];
     product[0] = 1;
+    // each turn lends a longer stretch of both
     for n in 0..out.len() {
         next_point(p, xs[n], vs[n], &mut product[..n + 2], &mut out[..n + 1]);
     }
