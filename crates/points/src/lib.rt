@@ -34,7 +34,7 @@ fn power_occurs(t: &[u32; 289], m: usize, j: usize) -> bool
     (0..m + 1).any(|i| t[i * 17 + j] != 0)
 }
 
-// The largest power of y that really occurs in the rows up to m; 0 where none does
+// The largest power of y that really occurs in the rows up to m; 0 where none does. A `Table` needs it first.
 pub fn true_degree(t: &[u32; 289], m: usize) -> usize
     requires { m ≤ 16 }
     ensures { result ≡ largest 16 (occurs m (term 16 t.now)) }
