@@ -25,19 +25,18 @@ pub fn value_at(p: u32, coefficients: &[u32], a: u32) -> u32
 }
 
 // Whether y^j stands in some row up to m
-fn power_occurs(t: &[u32], m: usize, j: usize) -> bool
-    requires t_len { length t.now ≡ 289 }
+fn power_occurs(t: &[u32; 289], m: usize, j: usize) -> bool
     requires m_bound { m ≤ 16 }
     requires j_bound { j ≤ 16 }
     ensures { result ≡ occurs m (term 16 t.now) j }
 {
+    // one place of each row: the rows are 17 apart, so it goes over their numbers
     (0..m + 1).any(|i| t[i * 17 + j] != 0)
 }
 
-// The largest power of y that really occurs in the rows up to m; 0 where none does
-pub fn true_degree(t: &[u32], m: usize) -> usize
-    requires t_len { length t.now ≡ 289 }
-    requires m_bound { m ≤ 16 }
+// The largest power of y that really occurs in the rows up to m; 0 where none does. A `Table` needs it first.
+pub fn true_degree(t: &[u32; 289], m: usize) -> usize
+    requires { m ≤ 16 }
     ensures { result ≡ largest 16 (occurs m (term 16 t.now)) }
 {
     (1..17).rev().find(|j| power_occurs(t, m, *j)).unwrap_or(0)
@@ -47,7 +46,7 @@ pub fn true_degree(t: &[u32], m: usize) -> usize
 // is m, and no power of y above d occurs.
 #[derive(Clone, Copy)]
 pub struct Table<'a> {
-    pub entries: &'a [u32],
+    pub entries: &'a [u32; 289],
     pub m: usize,
     pub d: usize,
     pub ghost fits: { IsTable m d entries.now } by { IsTable-prop m d entries.now },
@@ -60,17 +59,17 @@ impl Table<'_> {
         requires row { i ≤ self.m }
         ensures { result ≡ Rattle.scope.specs.Point.value_at p 16 (term 16 self.entry.entries.now) i a }
     {
-        value_at(p, &self.entries[i * 17..=i * 17 + self.d], a)
+        let entries = self.entries;
+        value_at(p, &entries[i * 17..=i * 17 + self.d], a)
     }
 
     // The rows at y = a, lowest power of x first
-    fn row_at(self, p: u32, a: u32, out: &mut [u32])
-        requires p_nonzero { 0 < p }
-        requires room { length out.old ≡ self.m + 1 }
-        ensures { out.new ≡ row_at p self.entry.m 16 (term 16 self.entry.entries.now) a }
+    fn row_at(self, p: Modulus, a: u32, out: &mut [u32])
+        requires { length out.old ≡ self.m + 1 }
+        ensures { out.new ≡ row_at p.value self.entry.m 16 (term 16 self.entry.entries.now) a }
     {
         for (i, value) in out.iter_mut().enumerate() {
-            *value = self.row_value(p, i, a);
+            *value = self.row_value(p.value, i, a);
         }
     }
 }
@@ -120,8 +119,8 @@ impl Pair<'_> {
         let mut w = [0u32; 17];
         let u = &mut u[..self.a.m + 1];
         let w = &mut w[..self.b.m + 1];
-        self.a.row_at(self.p.value, y, u);
-        self.b.row_at(self.p.value, y, w);
+        self.a.row_at(self.p, y, u);
+        self.b.row_at(self.p, y, w);
         rows::determinant_in(self.p, u, w)
     }
 
@@ -136,6 +135,9 @@ impl Pair<'_> {
         found == wanted
     }
 }
+
+// The four functions from here on hand p, x, v and both slices on, and each takes what it uses: a struct of two slices that
+// are written in turn would have to say in each method which of both stays.
 
 // out + c * t modulo p, entry by entry of out
 fn add_multiple(p: Modulus, c: u32, t: &[u32], out: &mut [u32])
@@ -155,6 +157,7 @@ fn times_linear(p: Modulus, x: u32, t: &mut [u32])
     requires t_below { (k : ℕ) → k < length t.old → get_or t.old k 0 < p.value }
     ensures { t.new ≡ tabulate (length t.old) (times_linear p.value x t.old) }
 {
+    // each turn reads the place that the next one writes, so the range is walked and not the slice
     for k in (1..t.len()).rev() {
         t[k] = field::mul_sub(p.value, t[k - 1], x, t[k]);
     }
@@ -203,6 +206,7 @@ pub fn interpolate(p: Modulus, xs: &[u32], vs: &[u32], out: &mut [u32])
     out.fill(0);
     let mut product = [0u32; 514];
     product[0] = 1;
+    // each turn lends a longer stretch of both
     for n in 0..out.len() {
         next_point(p, xs[n], vs[n], &mut product[..n + 2], &mut out[..n + 1]);
     }

@@ -34,7 +34,8 @@ pub fn subtract(p: u32, q: u32, part: &mut [u32], b: &[u32])
     }
 }
 
-// Division by b, whose last entry has the inverse f, from the top place of the quotient down
+// Division by b, whose last entry has the inverse f, from the top place of the quotient down. It takes the number p and not a
+// prime modulus, as docs/PROMISES.md names it.
 fn reduce(p: u32, f: u32, row: &mut [u32], b: &[u32])
     requires f_inverts { f ≡ Inverse.inverse p (get_or b.now (declared b.now) 0) }
     requires b_some { 0 < length b.now }
@@ -44,6 +45,7 @@ fn reduce(p: u32, f: u32, row: &mut [u32], b: &[u32])
     ensures { row.new ≡ remainder p row.old b.now ++ quotient p row.old b.now }
 {
     let d = b.len() - 1;
+    // each turn writes a stretch that the next one writes too, so the range is walked and not the slice
     for k in (0..row.len() - d).rev() {
         let q = field::mul(p, row[k + d], f);
         subtract(p, q, &mut row[k..], &b[..d]);
@@ -95,12 +97,11 @@ pub fn divisor<'a>(a: &'a [u32], b: &'a [u32]) -> &'a [u32]
 }
 
 // Every entry times f
-fn scale(p: u32, f: u32, r: &mut [u32])
-    requires { 0 < p }
-    ensures { r.new ≡ map (λ (x : ℕ). x * f % p) r.old }
+fn scale(p: Modulus, f: u32, r: &mut [u32])
+    ensures { r.new ≡ map (λ (x : ℕ). x * f % p.value) r.old }
 {
     for x in r.iter_mut() {
-        *x = field::mul(p, *x, f);
+        *x = field::mul(p.value, *x, f);
     }
 }
 
@@ -113,17 +114,21 @@ pub fn make_monic(p: Modulus, r: &mut [u32])
     let last = r[r.len() - 1];
     if last != 1 {
         let f = p.inverse(last);
-        scale(p.value, f, r);
+        scale(p, f, r);
     }
 }
 
 // (-1)^n x
-fn signed(p: u32, n: usize, x: u32) -> u32
-    requires { x < p }
-    ensures below { result < p }
-    ensures is { res p result ≡ Ring.◌⊗◌ (residues p) (sign (residues p) n) (res p x) }
+fn signed(p: Modulus, n: usize, x: u32) -> u32
+    requires { x < p.value }
+    ensures below { result < p.value }
+    ensures is { res p.value result ≡ Ring.◌⊗◌ (residues p.value) (sign (residues p.value) n) (res p.value x) }
 {
-    if n % 2 == 1 { field::sub(p, 0, x) } else { x }
+    if n % 2 == 1 {
+        field::sub(p.value, 0, x)
+    } else {
+        x
+    }
 }
 
 // What one division of a row of degree m by one of degree n makes of the value x of the rest: lead^m (-1)^(mn) x
@@ -134,7 +139,7 @@ fn turn(p: Modulus, lead: u32, m: usize, n: usize, x: u32) -> u32
     ensures { result ≡ val p.value (Ring.◌⊗◌ (residues p.value) (pow (residues p.value) (res p.value lead) m) (Ring.◌⊗◌ (residues p.value) (sign (residues p.value) (m * n)) (res p.value x))) }
 {
     let high = p.power(lead, m as u32);
-    field::mul(p.value, high, signed(p.value, m * n, x))
+    field::mul(p.value, high, signed(p, m * n, x))
 }
 
 // One division of the sequence: r is made monic, and before divided by it in place
@@ -225,7 +230,7 @@ pub fn resultant_in(p: Modulus, u: &mut [u32], w: &mut [u32]) -> Found
         let turns = (u.len() - 1) * (w.len() - 1);
         let found = euclid(p, w, u);
         return Found {
-            value: signed(p.value, turns, found.value),
+            value: signed(p, turns, found.value),
             steps: found.steps,
             last: found.last.swapped(),
         };
@@ -284,7 +289,7 @@ pub fn determinant_in(p: Modulus, u: &mut [u32], w: &mut [u32]) -> u32
     match (u[m] != 0, w[n] != 0) {
         (true, true) => resultant_in(p, u, w).value,
         (true, false) => fallen(p, u, w),
-        (false, true) => signed(p.value, m * n, fallen(p, w, u)),
+        (false, true) => signed(p, m * n, fallen(p, w, u)),
         (false, false) => u32::from(m + n == 0),
     }
 }

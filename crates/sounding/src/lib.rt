@@ -23,11 +23,10 @@ pub fn zeros_from(t: &[u32], k: usize) -> bool
 }
 
 // Whether a table is one that an accepted opening lays out: entries below p, zeros outside its m + 1 rows, a leading
-// row that is not zero, and d the largest power of y that occurs
+// row that is not zero, and d the largest power of y that occurs; no `Table` before that is known
 #[tactic(auto, using(crate::proofs::Tables::front_lead), unfolding(crate::specs::Parts::sound_table, scope::specs::Pair::size))]
-fn sound_table(p: u32, t: &[u32], m: u32, d: u32) -> bool
-    requires full { length t.now ≡ 289 }
-    requires m_most { m ≤ 16 }
+fn sound_table(p: u32, t: &[u32; 289], m: u32, d: u32) -> bool
+    requires { m ≤ 16 }
     ensures { result ≡ sound_table p m d t.now }
 {
     let end = (m as usize + 1) * 17;

@@ -4,7 +4,7 @@ use Rattle.rows.proofs.Value.{sign_even, sign_odd}
 use Rattle.rows.proofs.signed.Goals as goal
 
 pub returns-then-n-eq1-clause-is : goal.returns-then-n-eq1-clause-is
-returns-then-n-eq1-clause-is c = sign_odd c.args.p c.args.n c.args.x (omega arith) (omega arith) c.sub.ensures
+returns-then-n-eq1-clause-is c = sign_odd c.args.p.value c.args.n c.args.x (omega arith) (omega arith) c.sub.ensures
 
 pub returns-else-n-eq1-clause-is : goal.returns-else-n-eq1-clause-is
-returns-else-n-eq1-clause-is c = sign_even c.args.p c.args.n _ (omega arith)
+returns-else-n-eq1-clause-is c = sign_even c.args.p.value c.args.n _ (omega arith)

@@ -4,4 +4,4 @@ use Rattle.points.proofs.Rows.{row-stored}
 use Rattle.points.proofs.Table.row_at.Goals as goal
 
 pub returns : goal.returns
-returns c = row-stored _ _ _ _ c.loop-i.invariant (omega arith) c.requires.room
+returns c = row-stored _ _ _ _ c.loop-i.invariant (omega arith) c.requires
