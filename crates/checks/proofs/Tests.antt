@@ -26,7 +26,8 @@ use mathlib.Core.Path.{◌≡◌, refl, sym, ap, ◌∙◌}
 use borrow.Author.Tests.{lt-ltb, le-ltb, le-leb, eq-eqb, ne_eqb}
 use lib.Dec.{eqb, ltb, leb}
 use lib.ListN.{length, take, get_or, drop}
-use Rattle.residue.specs.Prime.{limit, Prime, prime?, prime?-right, prime?_all}
+use Rattle.residue.specs.Prime.{limit, Prime, prime?}
+use Rattle.residue.specs.PrimeLaws.{prime?-right, prime?_all}
 use Rattle.euclid.specs.Row.{declared}
 use Rattle.euclid.specs.RowLaws.{declared-length}
 use Rattle.scope.specs.Pair.{size, place, term, some}

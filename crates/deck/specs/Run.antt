@@ -29,7 +29,7 @@ use Rattle.std.specs.Io.KnownBytes.{Consumes, Appends, IsAtEnd}
 use Rattle.decks.specs.declared.Deck.{Deck}
 use Rattle.lines.specs.Text.{line, end_word}
 use Rattle.decks.specs.Deck.{body_length, fresh}
-use Rattle.decks.specs.DeckLaws.{Stepped, stepped}
+use Rattle.decks.specs.Stepped.{Stepped, stepped}
 use Rattle.stream.specs.declared.Stop.TheVariants.{Ended, Failed}
 use Rattle.stream.specs.declared.Arrival.{Arrival}
 use Rattle.stream.specs.declared.Arrival.TheVariants.{Whole, Cut, Nothing}

@@ -35,7 +35,8 @@ use Rattle.std.proofs.Math.Seq.{take_all, take-append_seam, drop-append_seam}
 use Rattle.decks.specs.declared.Deck.{Deck}
 use Rattle.lines.specs.Text.{line, end_word}
 use Rattle.decks.specs.Deck.{body_length, deck_number, Outcome, before, halted, deck, fresh}
-use Rattle.decks.specs.DeckLaws.{Stepped, stepped, stepped_refused, follow, stepping, deck-stepping}
+use Rattle.decks.specs.DeckLaws.{stepped_refused, follow, stepping, deck-stepping}
+use Rattle.decks.specs.Stepped.{Stepped, stepped}
 use Rattle.decks.specs.Refusal.{passed, whole_body}
 use Rattle.decks.specs.State.{Fit}
 use Rattle.decks.specs.Step.{Steps}

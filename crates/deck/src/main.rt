@@ -3,7 +3,7 @@
 
 ghost use Rattle.std.specs.Prelude.{◌+◌, ◌^◌, ◌<◌, Some, ◌≡◌};
 ghost use Rattle.decks.specs.Deck.{body_length, fresh};
-ghost use Rattle.decks.specs.DeckLaws.{stepped};
+ghost use Rattle.decks.specs.Stepped.{stepped};
 ghost use Rattle.decks.specs.Step.{Steps};
 ghost use Rattle.stream.specs.Arrival.{Arrives};
 ghost use Rattle.deck.specs.Run.{message, Takes, Turned, Played};

@@ -1,7 +1,5 @@
--- A run as a loop of steps: what one record does, and that the loop prints and leaves what the definition says.
+-- A run as a loop of steps, and that the loop prints and leaves what the definition says.
 --
---   Stepped                          what a step leaves: the state, the text to print, and whether the run stops
---   stepped d k body offset          the step of a record of kind k, its kind byte at `offset`, of whose body `body` arrived
 --   stepped_refused                  the step of a record with a deck refusal
 --   stepped-taken                    the step of any other
 --   follow s on                      stop where the step says so, else print its text and go on from its state
@@ -17,17 +15,7 @@ use Rattle.scope.specs.Usable.{and_true}
 use Rattle.decks.specs.declared.Deck.{Deck}
 use Rattle.lines.specs.Text.{line, deck_word, end_word}
 use Rattle.decks.specs.Deck.{body_length, deck_number, opening, taken, line_of, stops, Outcome, before, halted, from, fresh, deck}
-
-pub record Stepped : Type 0 where
-  pub state : Deck
-  pub text : List ℕ
-  pub halt : Bool
-
-unfoldable pub stepped : Deck → ℕ → List ℕ → ℕ → Stepped
-stepped d k body offset =
-    cond (eqb (deck_number d k body) 0)
-    (record { state = taken d k body; text = line_of d k body; halt = stops d k })
-    (record { state = d; text = line deck_word (deck_number d k body ∷ offset ∷ []); halt = true })
+use Rattle.decks.specs.Stepped.{Stepped, stepped}
 
 pub stepped_refused : (d : Deck) (k : ℕ) (body : List ℕ) (offset : ℕ) → (deck_number d k body ≡ 0 → ⊥) → stepped d k body offset ≡ record { state = d; text = line deck_word (deck_number d k body ∷ offset ∷ []); halt = true }
 unfolding stepped

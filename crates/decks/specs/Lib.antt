@@ -1,5 +1,6 @@
 -- What a deck means.
 pub mod Deck
+pub mod Stepped
 pub mod Figure
 -- what the functions promise
 pub mod Step

@@ -9,7 +9,7 @@ use Rattle.checks.specs.Outcome.{number_of}
 use Rattle.offers.specs.declared.SoundJob.{SoundJob}
 use Rattle.decks.specs.declared.Deck.{Deck}
 use Rattle.decks.specs.Deck.{opening, opened_job, taken, line_of, stops}
-use Rattle.decks.specs.DeckLaws.{Stepped}
+use Rattle.decks.specs.Stepped.{Stepped}
 
 unfoldable pub settled : Deck → ℕ → List ℕ → Stepped
 settled d k body = record { state = taken d k body; text = line_of d k body; halt = stops d k }

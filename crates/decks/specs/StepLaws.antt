@@ -8,7 +8,8 @@ use Rattle.std.proofs.Common.{arith}
 use Rattle.std.proofs.Math.Decide.{ℕ_discrete}
 use Rattle.decks.specs.declared.Deck.{Deck}
 use Rattle.decks.specs.Deck.{body_length, deck_number}
-use Rattle.decks.specs.DeckLaws.{stepped, stepped_refused, stepped-taken}
+use Rattle.decks.specs.DeckLaws.{stepped_refused, stepped-taken}
+use Rattle.decks.specs.Stepped.{stepped}
 use Rattle.decks.specs.State.{Fit, taken_fit}
 use Rattle.decks.specs.Step.{settled}
 

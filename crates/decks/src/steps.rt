@@ -3,12 +3,12 @@
 ghost use Rattle.std.specs.Prelude.{◌≤◌, ◌≡◌, [], length};
 ghost use Rattle.decks.specs.declared.Stage.TheVariants.{Opened};
 ghost use Rattle.decks.specs.Deck.{deck_number, fresh, point_line, read_line, with_job};
-ghost use Rattle.decks.specs.DeckLaws.{stepped};
+ghost use Rattle.decks.specs.Stepped.{stepped};
 ghost use Rattle.decks.specs.Kind.{kind_number};
 ghost use Rattle.decks.specs.State.{Fit};
 ghost use Rattle.decks.specs.Step.{settled, Opens, Steps};
 ghost use Rattle.job.specs.Calls.{offered};
-ghost use Rattle.residue.specs.Prime.{Prime-prop};
+ghost use Rattle.residue.specs.PrimeLaws.{Prime-prop};
 ghost use Rattle.std.proofs.Props.{props};
 
 use crate::records::{Kind, number4};

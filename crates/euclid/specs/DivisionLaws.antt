@@ -24,8 +24,10 @@ use Rattle.ring.specs.RingLaws.{zero-⊕, ⊗-zero, neg-zero, neg-⊕}
 use Rattle.ring.specs.Sum.{sum}
 use Rattle.ring.specs.SumLaws.{sum-zero}
 use Rattle.residue.specs.Prime.{Prime}
-use Rattle.residue.specs.Residue.{residues, res, res-mod, res-sub, res-*, res-zero, res_one}
-use Rattle.residue.specs.Inverse.{inverse, inverse-right}
+use Rattle.residue.specs.Residue.{residues, res}
+use Rattle.residue.specs.ResidueLaws.{res-mod, res-sub, res-*, res-zero, res_one}
+use Rattle.residue.specs.Inverse.{inverse}
+use Rattle.residue.specs.InverseLaws.{inverse-right}
 use Rattle.sylvester.specs.Sylvester.{moved}
 use Rattle.euclid.specs.Row.{coef, declared}
 use Rattle.euclid.specs.RowLaws.{Below, coef_out, coef-same, declared_most, declared_least}

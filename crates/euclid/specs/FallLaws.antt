@@ -15,7 +15,8 @@ use mathlib.Core.List.{List, []}
 use Rattle.std.proofs.Math.Path.{sym, ap, ap₂}
 use Rattle.ring.specs.Ring.{Ring, pow, sign}
 use Rattle.ring.specs.RingLaws.{⊗-zero}
-use Rattle.residue.specs.Residue.{residues, res, res-zero}
+use Rattle.residue.specs.Residue.{residues, res}
+use Rattle.residue.specs.ResidueLaws.{res-zero}
 use Rattle.sylvester.specs.Sylvester.{resultant}
 use Rattle.sylvester.specs.Laws.{resultant_ext, resultant_const_left, resultant_const_both, resultant_swap, resultant-drop_both, resultant_fall-right, resultant_fall_left, resultant-zero_left}
 use Rattle.euclid.specs.Row.{coef, trim, declared, degree, row_determinant}

@@ -14,8 +14,10 @@ use Rattle.std.proofs.Math.Path.{sym, ap}
 use Rattle.std.proofs.Math.ListN.{get_or, length-map, get_or-map}
 use Rattle.ring.specs.RingLaws.{⊗_left_comm}
 use Rattle.residue.specs.Prime.{Prime}
-use Rattle.residue.specs.Residue.{residues, res, res-mod, res-*, res_one}
-use Rattle.residue.specs.Inverse.{inverse, inverse-right}
+use Rattle.residue.specs.Residue.{residues, res}
+use Rattle.residue.specs.ResidueLaws.{res-mod, res-*, res_one}
+use Rattle.residue.specs.Inverse.{inverse}
+use Rattle.residue.specs.InverseLaws.{inverse-right}
 use Rattle.euclid.specs.Row.{coef, declared, lead}
 use Rattle.euclid.specs.RowLaws.{Below, Ended, ended-lead, declared_same}
 use Rattle.euclid.specs.DivisionLaws.{res-inverse}

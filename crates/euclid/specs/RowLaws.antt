@@ -16,7 +16,8 @@ use Rattle.std.specs.Prelude.{ℕ, zero, suc, ◌<◌, ◌≤◌, List, [], ◌�
 use Rattle.std.proofs.Common.{arith, sym, ap, ◌∙◌, inl, inr, ext_get_or}
 use Rattle.std.proofs.Math.ListN.{get_or-eq_default}
 use Rattle.ring.specs.Ring.{Ring}
-use Rattle.residue.specs.Residue.{residues, res, val, val-res_small, val-𝟘, res-zero}
+use Rattle.residue.specs.Residue.{residues, res, val}
+use Rattle.residue.specs.ResidueLaws.{val-res_small, val-𝟘, res-zero}
 use Rattle.euclid.specs.Row.{coef, joined, trim, declared, degree, lead}
 
 abbrev pub Below : ℕ → List ℕ → Type 0

@@ -14,9 +14,12 @@ use mathlib.Core.Bool.{Bool, true, false, not}
 use mathlib.Core.Path.{◌≡◌, refl, sym, ap, ◌∙◌}
 use Rattle.ring.specs.Ring.{Ring}
 use Rattle.ring.specs.RingLaws.{one-⊗, zero-⊗, ⊗-zero, zero-⊕, neg-⊕, neg-⊗, neg-neg, dist-⊗, ⊗_left_comm}
-use Rattle.residue.specs.Prime.{Prime, prime_no_divisor}
-use Rattle.residue.specs.Residue.{residues, res, res-+, res-*, res_self, res-zero, res_one, res-neg, path-res}
-use Rattle.residue.specs.Inverse.{inverse, inverse_unique}
+use Rattle.residue.specs.Prime.{Prime}
+use Rattle.residue.specs.PrimeLaws.{prime_no_divisor}
+use Rattle.residue.specs.Residue.{residues, res}
+use Rattle.residue.specs.ResidueLaws.{res-+, res-*, res_self, res-zero, res_one, res-neg, path-res}
+use Rattle.residue.specs.Inverse.{inverse}
+use Rattle.residue.specs.InverseLaws.{inverse_unique}
 
 module _ (R : Ring) where
   open R use {C, ◌⊕◌, ◌⊗◌, ⊖◌, 𝟙, ⊕_assoc, ⊗_assoc, ⊗_dist}

@@ -1,18 +1,15 @@
--- Facts on numbers: a remainder after one subtraction, products that fit, and a difference by one remainder.
+-- Facts on numbers: products that fit, and a difference by one remainder.
 --
---   mod_once        the remainder by p of a number below 2p that is not below p
 --   product_most    two numbers of 32 bits have a product of at most (2^32 - 1)^2
 --   minus-product   (p - b) * q + c is c - q * b modulo p
 use Prim.Native.Nat.{ℕ, ◌+◌, ◌*◌, ◌-◌, ◌%◌, ◌^◌, ◌≤◌, ◌<◌}
-use native.Mathlib.Nat.{mod-eq_of_lt, mod-eq-sub-mod, mul-le-mul, le_of_lt}
+use native.Mathlib.Nat.{mul-le-mul, le_of_lt}
 use native.Mathlib.Omega.{arith}
 use mathlib.Core.Path.{◌≡◌, refl, sym, ap, ◌∙◌}
 use Rattle.ring.specs.RingLaws.{neg-⊗}
 use Rattle.residue.specs.Computed.{mul-sub-res}
-use Rattle.residue.specs.Residue.{residues, res, res-+, res-*, res-neg, res-mod, path-res}
-
-pub mod_once : {n p : ℕ} → p ≤ n → n < p + p → n % p ≡ n - p
-mod_once {n} {p} over less = mod-eq-sub-mod over ∙ mod-eq_of_lt (omega arith)
+use Rattle.residue.specs.Residue.{residues, res}
+use Rattle.residue.specs.ResidueLaws.{res-+, res-*, res-neg, res-mod, path-res}
 
 pub product_most : {a b : ℕ} → a < 2 ^ 32 → b < 2 ^ 32 → a * b ≤ (2 ^ 32 - 1) * (2 ^ 32 - 1)
 product_most {a} {b} ha hb = mul-le-mul {n₁ = a} {m₁ = b} {n₂ = 2 ^ 32 - 1} {m₂ = 2 ^ 32 - 1} (omega arith) (omega arith)

@@ -13,7 +13,8 @@ use mathlib.Core.Path.{◌≡◌, sym, ap, ◌∙◌}
 use Rattle.ring.specs.Ring.{Ring, pow}
 use Rattle.ring.specs.RingLaws.{pow-mul, one-⊗}
 use Rattle.residue.specs.Computed.{product-res}
-use Rattle.residue.specs.Residue.{residues, res, res_one}
+use Rattle.residue.specs.Residue.{residues, res}
+use Rattle.residue.specs.ResidueLaws.{res_one}
 
 module _ (R : Ring) where
   open R use {C, ◌⊗◌, ⊗-one}

@@ -5,7 +5,8 @@
 
 ghost use Rattle.std.specs.Prelude.{◌≡◌, ◌↔◌, true, ◌+◌, ◌*◌, ◌-◌, ◌%◌, ◌<◌, ◌≤◌, IsSome, IfSome};
 ghost use Rattle.ring.specs.Ring.{pow};
-ghost use Rattle.residue.specs.Prime.{Prime, Prime-prop};
+ghost use Rattle.residue.specs.Prime.{Prime};
+ghost use Rattle.residue.specs.PrimeLaws.{Prime-prop};
 ghost use Rattle.residue.specs.Residue.{residues, res};
 ghost use Rattle.residue.specs.Inverse;
 

@@ -8,16 +8,17 @@ use Rattle.std.proofs.Common.{arith, ◌∙◌, subst}
 use Rattle.std.proofs.Math.Path.{refl, ap}
 use Rattle.std.proofs.Math.ListN.{get_or}
 use borrow.Author.Tests.{eq-eqb, le-ltb}
-use Rattle.residue.specs.Residue.{residues, res, val, val-res_small}
+use Rattle.residue.specs.Residue.{residues, res, val}
+use Rattle.residue.specs.ResidueLaws.{val-res_small, val-lt}
 use Rattle.residue.specs.Inverse.{inv}
-use Rattle.polynomial.specs.Value.{value, value_ext}
-use Rattle.polynomial.specs.Interpolation.{newton-value}
+use Rattle.polynomial.specs.Value.{value}
+use Rattle.polynomial.specs.ValueLaws.{value_ext}
+use Rattle.polynomial.specs.InterpolationLaws.{newton-value}
 use Rattle.scope.specs.Pair.{Pair, determinant}
 use Rattle.scope.specs.Point.{kept, needed, row_a, row_b}
 use Rattle.scope.specs.Number.{point_number, ◌then◌}
 use Rattle.scope.specs.Recovery.{Different, different_invertible, recovered, determinant-value}
 use Rattle.euclid.specs.Row.{row_determinant}
-use Rattle.residue.specs.Residue.{val-lt}
 use Rattle.job.specs.declared.Job.{Job}
 use Rattle.job.specs.Job.{pair_of, kept_points}
 use Rattle.job.specs.Calls.{interpolant, agrees, offer_number}

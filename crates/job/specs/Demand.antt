@@ -6,7 +6,7 @@
 --   points_of c            the points that a call offers: a lot refused for room offers none
 --   all_points cs          those of all calls, in order
 --   counts P a            a is a usable point
---   among, distinct       the different ones of a list, each where it first stands
+--   distinct before xs     the different ones of a list that are not among those before, each where it first stands
 --   offered_count P cs     how many different usable points the calls offered
 use Rattle.std.specs.Prelude.{ℕ, Bool, cond, ◌&&◌, List, [], ◌∷◌, ◌++◌, leb, ltb, length}
 use Rattle.scope.specs.Pair.{Pair}

@@ -15,10 +15,11 @@ use Rattle.std.proofs.Math.Path.{PathP, refl, ap, ap₂}
 use Rattle.std.proofs.Math.Dec.{leb}
 use Rattle.std.proofs.Math.ListN.{take}
 use Rattle.ring.specs.Ring.{Ring}
-use Rattle.residue.specs.Residue.{residues, res, val, res-zero}
+use Rattle.residue.specs.Residue.{residues, res, val}
+use Rattle.residue.specs.ResidueLaws.{res-zero}
 use Rattle.sylvester.specs.Sylvester.{resultant}
 use Rattle.polynomial.specs.Poly.{poly}
-use Rattle.polynomial.specs.Value.{value_more}
+use Rattle.polynomial.specs.ValueLaws.{value_more}
 use Rattle.euclid.specs.Row.{row_determinant}
 use Rattle.scope.specs.Pair.{Pair, largest, occurs, degree_a, degree_b, bound, polynomial, determinant, coefficient}
 use Rattle.scope.specs.Point.{tabulate, value_at, row_at, row_a, row_b, usable, kept, needed, room, usables, enough, smallest}

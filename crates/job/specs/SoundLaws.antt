@@ -1,11 +1,11 @@
 -- The test of a record says exactly that it is sound.
 --
---   standing_test          the test holds exactly where the facts of a sound record stand
---   kept-good, kept_values its kept points and values, as the test reads them
---   sound_standing         what an accepted opening and offers leave has these facts
---   standing_sound         and a record with these facts is left by some accepted opening and some offers
---   sound_test             so the test holds of the sound records and of no other
---   blank_unsound          the record that a refused opening hands back is not sound
+--   standing_test           the test holds exactly where the facts of a sound record stand
+--   kept-good, kept_values  its kept points and values, as the test reads them
+--   sound_standing          what an accepted opening and offers leave has these facts
+--   standing_sound          and a record with these facts is left by some accepted opening and some offers
+--   sound_test              so the test holds of the sound records and of no other
+--   blank_unsound           the record that a refused opening hands back is not sound
 use Rattle.std.specs.Prelude.{ℕ, zero, suc, ◌+◌, ◌*◌, ◌≤◌, ◌<◌, Bool, true, false, not, List, [], ◌∷◌, map, ◌≡◌, refl, ◌↔◌, leb, eqb, length, get_or, take, drop}
 use Rattle.std.proofs.Common.{arith, sym, ap, ◌∙◌, subst, length-take-le, get_or-take, ext_get_or, leb-true, le-leb, eqb-true, eq-eqb}
 use Rattle.std.proofs.lemmas.List.{length-map}

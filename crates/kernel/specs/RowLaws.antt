@@ -1,9 +1,11 @@
 -- How the row calls come to their results: a refusal, or the work done.
 --
---   row_refused, row_given, row_done the row resultant: a refusal, what the work asks, the work done
---   plain_refused ..                 the plain determinant
---   division_refused ..              division in the work row
---   row_laws                         all of these, for the calls
+--   row_refused, row_given, row_done    the row resultant: a refusal, what the work asks, the work done
+--   plain_refused ..                    the plain determinant
+--   division_refused ..                 division in the work row
+--   row_laws                            all of these, for the calls
+--   divisor_alone                       the divisor between a row and itself is as long as the row's true length
+--   divisor_first, divisor_second       which row divides, from the true lengths of both
 use Rattle.std.specs.Prelude.{ℕ, ◌+◌, ◌≤◌, ◌<◌, Bool, List, ◌++◌, ◌≡◌, refl, ◌≢◌, length}
 use Rattle.std.proofs.Common.{arith, ◌∙◌, eq-eqb, ne_eqb}
 use Rattle.std.proofs.Math.Path.{sym, ap}
@@ -22,7 +24,8 @@ use Rattle.rows.specs.Given.{IsRow}
 use Rattle.checks.specs.Outcome.{number_of_bounds}
 use Rattle.checks.specs.Facts.{RowFacts, row-facts, plain-facts, DivisionFacts, division-facts}
 use Rattle.euclid.specs.Row.{trim}
-use Rattle.rows.specs.Which.{pick, first?, first?_yes, first?_no, lower, lower_first, lower_second}
+use Rattle.rows.specs.Which.{pick, first?, lower}
+use Rattle.rows.specs.WhichLaws.{first?_yes, first?_no, lower_first, lower_second}
 use Rattle.kernel.specs.Results.{RowResult, PlainResult, DivisionResult, DivisorResult}
 
 pub done : (r x : ℕ) → r ≡ 0 → only_done r x ≡ x
@@ -116,20 +119,18 @@ module _ (p : ℕ) (a b : List ℕ) where
 
 pub ruleset row_laws = (row_refused, row_given, row_done, plain_refused, plain_given, plain_done, division_refused, division_given, division_done, number_of_bounds)
 
--- a row beside itself is cut to its true length
-alone : (a : List ℕ) → length (lower a a) ≡ length (trim a)
-alone a = ap length (lower_second a a (omega arith))
+-- the divisor between a row and itself is as long as the row's true length
+pub divisor_alone : (a x : Bor (List ℕ)) → DivisorResult a a x → length x.now ≡ length (trim a.now)
+divisor_alone a x h = ap length (h.stretch ∙ lower_second a.now a.now (omega arith))
 
 -- which row divides, from the true lengths of both
-module _ (a b x y : Bor (List ℕ)) (hx : DivisorResult a a x) (hy : DivisorResult b b y) where
-  pub divisor_first : length x.now < length y.now
-      → (◌≡◌ {A = ℕ} 0 (pick (first? a.now b.now) 0 1)) × (length x.now ≡ length (lower a.now b.now))
+module _ (a b : List ℕ) (x y : ℕ) (hx : x ≡ length (trim a)) (hy : y ≡ length (trim b)) where
+  pub divisor_first : x < y → (◌≡◌ {A = ℕ} 0 (pick (first? a b) 0 1)) × (x ≡ length (lower a b))
   divisor_first l =
-      let t : length (trim a.now) < length (trim b.now) = omega (arith, ap length hx.stretch, ap length hy.stretch, alone a.now, alone b.now) in
-      (ap (λ (z : Bool). pick z 0 1) (sym (first?_yes a.now b.now t)), ap length hx.stretch ∙ alone a.now ∙ ap length (sym (lower_first a.now b.now t)))
+      let t : length (trim a) < length (trim b) = omega (arith, hx, hy) in
+      (ap (λ (z : Bool). pick z 0 1) (sym (first?_yes a b t)), hx ∙ ap length (sym (lower_first a b t)))
 
-  pub divisor_second : length y.now ≤ length x.now
-      → (◌≡◌ {A = ℕ} 1 (pick (first? a.now b.now) 0 1)) × (length y.now ≡ length (lower a.now b.now))
+  pub divisor_second : y ≤ x → (◌≡◌ {A = ℕ} 1 (pick (first? a b) 0 1)) × (y ≡ length (lower a b))
   divisor_second l =
-      let t : length (trim b.now) ≤ length (trim a.now) = omega (arith, ap length hx.stretch, ap length hy.stretch, alone a.now, alone b.now) in
-      (ap (λ (z : Bool). pick z 0 1) (sym (first?_no a.now b.now t)), ap length hy.stretch ∙ alone b.now ∙ ap length (sym (lower_second a.now b.now t)))
+      let t : length (trim b) ≤ length (trim a) = omega (arith, hx, hy) in
+      (ap (λ (z : Bool). pick z 0 1) (sym (first?_no a b t)), hy ∙ ap length (sym (lower_second a b t)))

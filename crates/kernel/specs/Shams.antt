@@ -2,13 +2,13 @@
 -- there in the part that it gets wrong: any number but the right one, any value, any output. The inputs are the scope's
 -- figures. A name begins with its call: row, plain, division, divisor, open, offer, lot, read, shot.
 --
---   ..-refusing      refuses everything: every call that can accept
---   ..-fixed         one value, or one polynomial, for all inputs: row resultant, plain determinant, read, one-shot
---   ..-idle          writes nothing: division, lot, read, one-shot
---   ..-marking       works out the first lot and only marks later points: a later offer, a later lot, the read after two lots
---   ..-inventing     invents its steps, its count, the number wanted: row resultant, division, read
---   ..-trusting      does not test the record: offer, lot, read
---   ..-touching      changes what is not its own: the row that stays, the bytes after the answers, the output past D + 1
+--   .._refusing      refuses everything: every call that can accept
+--   .._fixed         one value, or one polynomial, for all inputs: row resultant, plain determinant, read, one-shot
+--   .._idle          writes nothing: division, lot, read, one-shot
+--   .._marking       works out the first lot and only marks later points: a later offer, a later lot, the read after two lots
+--   .._inventing     invents its steps, its count, the number wanted: row resultant, division, read
+--   .._trusting      does not test the record: offer, lot, read
+--   .._touching      changes what is not its own: the row that stays, the bytes after the answers, the output past D + 1
 --   row_unsigned     the sign of the swap dropped
 --   row-one-less     exponents from one less
 --   row_constant     a zero remainder against a constant divisor taken for a common factor

@@ -8,9 +8,11 @@
 use Rattle.std.proofs.Common.{ℕ, ◌<◌, ◌≤◌, List, ◌≡◌, arith, sym, ap, ap₂, ◌∙◌, eqb, length, get_or, take, get_or-take}
 use Rattle.std.proofs.lemmas.Grind.{common_steps}
 use mathlib.Core.Path.{fun_ext}
-use Rattle.residue.specs.Residue.{residues, res, val, res-val}
+use Rattle.residue.specs.Residue.{residues, res, val}
+use Rattle.residue.specs.ResidueLaws.{res-val}
 use Rattle.residue.specs.Inverse.{inv}
-use Rattle.polynomial.specs.Value.{value, value_ext}
+use Rattle.polynomial.specs.Value.{value}
+use Rattle.polynomial.specs.ValueLaws.{value_ext}
 use Rattle.polynomial.specs.Interpolation.{newton}
 use Rattle.scope.specs.Point.{tabulate, kept, needed}
 use Rattle.scope.specs.Degree.{tabulate-length, tabulate-get_or}

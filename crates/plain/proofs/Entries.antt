@@ -17,10 +17,11 @@ use Rattle.std.specs.Array.{IsFromFnResult, IsFromFnResultFrom}
 use Rattle.std.specs.Fn.{Called}
 use denote.Param.Members.{Mut}
 use Rattle.ring.specs.Ring.{Ring}
-use Rattle.ring.specs.Matrix.{stack_low, stack_high}
+use Rattle.ring.specs.MatrixLaws.{stack_low, stack_high}
 use Rattle.ring.specs.Det.{det}
 use Rattle.ring.specs.DetLaws.{det_ext}
-use Rattle.residue.specs.Residue.{residues, res, val, res-zero}
+use Rattle.residue.specs.Residue.{residues, res, val}
+use Rattle.residue.specs.ResidueLaws.{res-zero}
 use Rattle.sylvester.specs.Sylvester.{top, moved, sylvester, resultant}
 use Rattle.sylvester.specs.Shift.{top_at, top_out, moved_at, moved_out}
 use Rattle.euclid.specs.Row.{coef, declared, row_determinant}

@@ -24,7 +24,8 @@ use Rattle.ring.specs.Sum.{sum, alt}
 use Rattle.ring.specs.SumLaws.{sum-neg, sum_ext, sum-last}
 use Rattle.ring.specs.Det.{minor, det}
 use Rattle.ring.specs.DetLaws.{det_ext}
-use Rattle.residue.specs.Residue.{residues, res, val, val-𝟘, val-⊕, val-lt, val-𝟙, val-res_small, res-val, res-zero}
+use Rattle.residue.specs.Residue.{residues, res, val}
+use Rattle.residue.specs.ResidueLaws.{val-𝟘, val-⊕, val-lt, val-𝟙, val-res_small, res-val, res-zero}
 use Rattle.residue.specs.Computed.{product-res, difference-res}
 use Rattle.plain.specs.Expansion.{cell, part, signed}
 use Rattle.plain.proofs.Columns.{removed}

@@ -10,8 +10,10 @@ use Rattle.std.proofs.lemmas.List.Sums.{fold-append}
 use Rattle.std.proofs.lemmas.List.{reverse-append, get_or-take}
 use Rattle.ring.specs.Ring.{Ring}
 use Rattle.ring.specs.Sum.{sum}
-use Rattle.residue.specs.Residue.{residues, res, val, res-val, val-res, val-𝟘, val-lt, res-+, res-*}
-use Rattle.polynomial.specs.Value.{value, value_step, value_ext}
+use Rattle.residue.specs.Residue.{residues, res, val}
+use Rattle.residue.specs.ResidueLaws.{res-val, val-res, val-𝟘, val-lt, res-+, res-*}
+use Rattle.polynomial.specs.Value.{value}
+use Rattle.polynomial.specs.ValueLaws.{value_step, value_ext}
 use Rattle.points.specs.Step.{value_of}
 
 module _ (p a : ℕ) (pos : 0 < p) where

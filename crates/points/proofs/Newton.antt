@@ -22,11 +22,14 @@ use Rattle.std.proofs.Common.{length-take, length-take-le}
 use Rattle.ring.specs.RingLaws.{zero-⊕, zero-⊗, neg-⊗}
 use Rattle.residue.specs.Prime.{Prime}
 use Rattle.residue.specs.Computed.{difference-res, product-res, mul-sub-res, inverse-res}
-use Rattle.residue.specs.Residue.{residues, res, val, val_inj, val-lt, val-res_small, val-𝟘, val-𝟙, res-val, res-zero, res-mod, res-+, res-*}
+use Rattle.residue.specs.Residue.{residues, res, val}
+use Rattle.residue.specs.ResidueLaws.{val_inj, val-lt, val-res_small, val-𝟘, val-𝟙, res-val, res-zero, res-mod, res-+, res-*}
 use Rattle.residue.specs.Inverse.{inverse, inv}
 use Rattle.polynomial.specs.Convolution.{one}
-use Rattle.polynomial.specs.Value.{value, value_ext, value-enough}
-use Rattle.polynomial.specs.Interpolation.{newton, newton-bound, weight, product, product_none, product_first, product-next, product-bound}
+use Rattle.polynomial.specs.Value.{value}
+use Rattle.polynomial.specs.ValueLaws.{value_ext, value-enough}
+use Rattle.polynomial.specs.Interpolation.{newton, weight, product}
+use Rattle.polynomial.specs.InterpolationLaws.{newton-bound, product_none, product_first, product-next, product-bound}
 use Rattle.scope.specs.Point.{tabulate}
 use Rattle.scope.specs.Recovery.{Different, different_invertible}
 use Rattle.points.specs.Step.{value_of, weight_of, plus_multiple, times_linear}

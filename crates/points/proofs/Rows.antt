@@ -15,8 +15,10 @@ use lib.Seq.{get_or-drop}
 use Rattle.std.proofs.lemmas.List.{get_or-take}
 use borrow.Author.Tests.{le-leb}
 use Rattle.ring.specs.Ring.{Ring}
-use Rattle.residue.specs.Residue.{residues, res, val, res-zero}
-use Rattle.polynomial.specs.Value.{value, value_ext, value_more}
+use Rattle.residue.specs.Residue.{residues, res, val}
+use Rattle.residue.specs.ResidueLaws.{res-zero}
+use Rattle.polynomial.specs.Value.{value}
+use Rattle.polynomial.specs.ValueLaws.{value_ext, value_more}
 use Rattle.scope.specs.Pair.{place, term, polynomial}
 use Rattle.scope.specs.Point.{tabulate, value_at, row_at}
 use Rattle.points.specs.Table.{IsTable}

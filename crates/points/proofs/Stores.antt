@@ -1,7 +1,6 @@
 -- A loop that stores f i at every index i from lo up to hi, one store a turn, from the bottom up or from the top down.
 --
 --   Stored f lo hi l k     k is l with those entries so
---   stored_none            before the first turn
 --   stored_up              one turn upwards
 --   stored_down            one turn downwards
 --   kept-below             an entry not stored to is below p where it was
@@ -59,10 +58,6 @@ pub kept-below : {f : ℕ → ℕ} {lo hi : ℕ} {l k : List ℕ} {p n : ℕ} �
 kept-below h small i b c = rw (h.below i b) (small i c)
 
 module _ (f : ℕ → ℕ) where
-  pub stored_none : (j : ℕ) (l : List ℕ) → Stored f j j l l
-  stored_none j l =
-      record { long = refl; new = λ i a b. absurd (omega arith); below = λ i b. refl; above = λ i a. refl }
-
   pub stored_up : {lo hi : ℕ} {l k : List ℕ} {v : ℕ} → Stored f lo hi l k → lo ≤ hi → hi < length l → v ≡ f hi
       → Stored f lo (hi + 1) l (set k hi v)
   stored_up {lo} {hi} {l} {k} {v} h order room e =

@@ -4,6 +4,7 @@
 #![tactic(auto)]
 
 ghost use Rattle.std.specs.Prelude.{◌≡◌, length};
+ghost use Rattle.euclid.specs.Row.{trim};
 ghost use Rattle.rows.specs.Which.{lower, first?, pick};
 ghost use Rattle.kernel.specs.Results.{RowResult, PlainResult, DivisionResult, OpenResult, OfferResult, LotResult, ReadResult, ShotResult};
 
@@ -39,12 +40,20 @@ pub extern "C" fn pukilembo_divide(p: u32, row: &mut [u32], b: &[u32]) -> Divisi
     kernel::divide(p, row, b)
 }
 
+// How many entries a row has up to its last nonzero one: as many as the divisor between the row and itself
+fn true_length(r: &[u32]) -> usize
+    ensures { result ≡ length (trim r.now) }
+{
+    kernel::divisor(r, r).len()
+}
+
+// C is told which row and how many of its entries: the one of lower true length divides, the second on a tie
 #[unsafe(no_mangle)]
 pub extern "C" fn pukilembo_divisor(a: &[u32], b: &[u32]) -> Stretch
     ensures { (result.side ≡ pick (first? a.now b.now) 0 1) × (result.length ≡ length (lower a.now b.now)) }
 {
-    let first = kernel::divisor(a, a).len();
-    let second = kernel::divisor(b, b).len();
+    let first = true_length(a);
+    let second = true_length(b);
     if first < second {
         return Stretch {
             side: 0,

@@ -5,7 +5,6 @@
 --   upto-count          of a fresh j it keeps all of them, up to those needed
 --   upto_next           one number more is one offer more
 --   filling_first       before the first turn
---   filling_standing    the job is sound all along
 --   filling-count       and keeps exactly those points
 --   filling_few         which are not more than those needed
 --   filling-below       while points are wanted a is a point
@@ -19,7 +18,7 @@ use native.Mathlib.Omega.{arith}
 use mathlib.Core.Bool.{Bool, true, false, and-false}
 use mathlib.Core.List.{List, [], ◌∷◌}
 use mathlib.Core.Logic.{inl}
-use mathlib.Core.Path.{◌≡◌, refl, sym, ap, ◌∙◌, subst}
+use mathlib.Core.Path.{◌≡◌, refl, sym, ap, ◌∙◌}
 use lib.Dec.{ltb}
 use lib.ListN.{length, take, length-append}
 use borrow.Author.Tests.{leb-true}
@@ -32,7 +31,7 @@ use Rattle.job.specs.Job.{pair_of, kept_points}
 use Rattle.job.specs.Calls.{offered, lotted}
 use Rattle.job.specs.Demand.{counts, counting, distinct}
 use Rattle.job.specs.Standing.{Standing}
-use Rattle.job.specs.StandingLaws.{lotted_standing, lotted_pair, lotted-append}
+use Rattle.job.specs.StandingLaws.{lotted_pair, lotted-append}
 use Rattle.job.specs.DemandLaws.{idle_uncounted, lotted-count}
 use Rattle.job.specs.OneShot.{usables_rising, counting_rising}
 
@@ -77,9 +76,6 @@ module _ (j : Job) (s : Standing j) (fresh : j.count ≡ 0) where
   filling_first = record { within = omega arith; same = refl; few = omega arith }
 
   module _ (a : ℕ) (k : Job) (h : Filling j a k) where
-    pub filling_standing : Standing k
-    filling_standing = subst Standing (sym h.same) (lotted_standing j s (usables (pair_of j) a))
-
     filling-count : k.count ≡ length (usables (pair_of j) a)
     unfolding upto pair_of
     filling-count = ap (λ (z : Job). z.count) h.same ∙ upto-count a h.within ∙ omega (arith, h.few)

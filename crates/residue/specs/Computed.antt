@@ -8,7 +8,8 @@
 --   inverse-res       r = inverse p a
 use Rattle.std.specs.Prelude.{ℕ, ◌+◌, ◌*◌, ◌-◌, ◌%◌, ◌≤◌, ◌<◌, ◌≡◌}
 use Rattle.std.proofs.Common.{mod-lt, le_of_lt, sym, ap, ◌∙◌}
-use Rattle.residue.specs.Residue.{residues, res, res-+, res-*, res-sub, res-mod, val-res_small}
+use Rattle.residue.specs.Residue.{residues, res}
+use Rattle.residue.specs.ResidueLaws.{res-+, res-*, res-sub, res-mod, val-res_small}
 use Rattle.residue.specs.Inverse.{inverse, inv}
 
 module _ (p : ℕ) (pos : 0 < p) where

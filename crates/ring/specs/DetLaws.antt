@@ -19,7 +19,8 @@ use Rattle.ring.specs.Ring.{Ring, sign, pow}
 use Rattle.ring.specs.RingLaws.{zero-⊕, one-⊗, zero-⊗, dist-⊗, ⊕_cancel, ⊗_left_comm}
 use Rattle.ring.specs.Sum.{alt}
 use Rattle.ring.specs.Alt.{alt_ext, alt-linear, alt-scale, alt_swap, alt_single}
-use Rattle.ring.specs.Matrix.{put, put_is, put_columns}
+use Rattle.ring.specs.Matrix.{put}
+use Rattle.ring.specs.MatrixLaws.{put_is, put_columns}
 use Rattle.ring.specs.Det.{skip, minor, det}
 
 pub skip-lt : (j k n : ℕ) → k < n → skip j k < suc n

@@ -11,7 +11,8 @@ use Rattle.std.proofs.Math.Path.{refl, sym, ap, ap₂}
 use Rattle.ring.specs.Ring.{Ring, sign}
 use Rattle.ring.specs.RingLaws.{one-⊗, ⊗-neg, neg-⊗, neg-neg, ⊗_left_comm, sign-add}
 use Rattle.ring.specs.Alt.{alt_ext, alt-scale}
-use Rattle.ring.specs.Matrix.{put, stack, stack_low, stack_high, stack_columns}
+use Rattle.ring.specs.Matrix.{put, stack}
+use Rattle.ring.specs.MatrixLaws.{stack_low, stack_high, stack_columns}
 use Rattle.ring.specs.Det.{skip, minor, det}
 use Rattle.ring.specs.DetLaws.{det_ext}
 use Rattle.ring.specs.DetSwap.{det_swap}

@@ -11,7 +11,8 @@ use Rattle.std.specs.Prelude.{◌≡◌, refl, ◌≢◌}
 use Rattle.std.proofs.Math.Path.{sym, ap, fun_ext}
 use Rattle.ring.specs.Ring.{Ring, pow}
 use Rattle.ring.specs.RingLaws.{one-⊗, pow-one}
-use Rattle.ring.specs.Matrix.{put, put_same, put_other, put_self}
+use Rattle.ring.specs.Matrix.{put}
+use Rattle.ring.specs.MatrixLaws.{put_same, put_other, put_self}
 use Rattle.ring.specs.Det.{det}
 use Rattle.ring.specs.DetLaws.{det_ext, det-put, det-scale}
 use Rattle.ring.specs.DetSwap.{det-add_multiple}

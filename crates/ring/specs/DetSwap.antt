@@ -12,7 +12,8 @@ use Rattle.ring.specs.Ring.{Ring}
 use Rattle.ring.specs.RingLaws.{zero-⊕, ⊗-zero, neg_unique, neg-zero}
 use Rattle.ring.specs.Sum.{alt}
 use Rattle.ring.specs.Alt.{alt-zero}
-use Rattle.ring.specs.Matrix.{put, put_same, put_other, put_is, put_self, put_comm}
+use Rattle.ring.specs.Matrix.{put}
+use Rattle.ring.specs.MatrixLaws.{put_same, put_other, put_is, put_self, put_comm}
 use Rattle.ring.specs.Det.{skip, minor, det}
 use Rattle.ring.specs.DetLaws.{skip-lt, det_ext, det_by_column, det-linear, det-add, det-put}
 

@@ -6,6 +6,7 @@ pub mod Sum
 pub mod SumLaws
 pub mod Alt
 pub mod Matrix
+pub mod MatrixLaws
 pub mod Det
 pub mod DetLaws
 pub mod DetSwap

@@ -19,7 +19,8 @@ use Rattle.std.proofs.Common.{nat_eq}
 use Rattle.std.proofs.Math.Dec.{eqb-suc-zero}
 use Rattle.std.specs.Int.{from_bool}
 use Rattle.ring.specs.Ring.{pow, sign}
-use Rattle.residue.specs.Residue.{residues, res, val, res-val, val-𝟘, val-𝟙}
+use Rattle.residue.specs.Residue.{residues, res, val}
+use Rattle.residue.specs.ResidueLaws.{res-val, val-𝟘, val-𝟙}
 use Rattle.residue.specs.Computed.{product-res}
 use Rattle.euclid.specs.Row.{coef, trim, declared, degree, row_determinant}
 use Rattle.euclid.specs.RowLaws.{Ended, trim-below, trim-ended, trim-length}

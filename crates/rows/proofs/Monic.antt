@@ -8,7 +8,8 @@ use native.Mathlib.Omega.{arith}
 use mathlib.Core.List.{List, [], ◌∷◌, map}
 use mathlib.Core.Path.{◌≡◌, refl, sym, ap, ap₂, ◌∙◌}
 use lib.ListN.{length, get_or}
-use Rattle.residue.specs.Inverse.{inverse, inverse_unique}
+use Rattle.residue.specs.Inverse.{inverse}
+use Rattle.residue.specs.InverseLaws.{inverse_unique}
 use Rattle.euclid.specs.RowLaws.{Below, Ended, ended-lead}
 use Rattle.euclid.specs.Sequence.{monic}
 use Rattle.rows.proofs.Bounds.{declared-minus}

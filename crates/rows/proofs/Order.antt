@@ -12,7 +12,8 @@ use borrow.Author.Tests.{lt-ltb, le-ltb}
 use lib.Dec.{ltb}
 use lib.ListN.{length}
 use Rattle.ring.specs.Ring.{sign}
-use Rattle.residue.specs.Residue.{residues, res, val, res-val}
+use Rattle.residue.specs.Residue.{residues, res, val}
+use Rattle.residue.specs.ResidueLaws.{res-val}
 use Rattle.euclid.specs.Row.{degree}
 use Rattle.euclid.specs.RowLaws.{ended-degree}
 use Rattle.euclid.specs.Sequence.{monic, sequence, by_size, row_resultant, steps_by_size, row_steps}

@@ -16,7 +16,8 @@ use mathlib.Core.Path.{◌≡◌, refl, sym, ap, ap₂, subst, ◌∙◌}
 use lib.ListN.{length, get_or, set}
 use lib.Seq.{take_all}
 use Rattle.ring.specs.Ring.{pow, sign}
-use Rattle.residue.specs.Residue.{residues, res, val, res-val}
+use Rattle.residue.specs.Residue.{residues, res, val}
+use Rattle.residue.specs.ResidueLaws.{res-val}
 use Rattle.euclid.specs.Row.{declared, degree, lead}
 use Rattle.euclid.specs.RowLaws.{trim-length, ended-degree, ended-lead}
 use Rattle.euclid.specs.Division.{remainder, count}

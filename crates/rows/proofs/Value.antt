@@ -8,7 +8,8 @@ use native.Mathlib.Omega.{arith}
 use mathlib.Core.Path.{◌≡◌, sym, ap, ◌∙◌}
 use Rattle.ring.specs.Ring.{Ring, sign}
 use Rattle.ring.specs.RingLaws.{one-⊗, zero-⊕, neg-⊗, sign-add, sign_sq}
-use Rattle.residue.specs.Residue.{residues, res, val, val-lt, val-res_small, res-zero}
+use Rattle.residue.specs.Residue.{residues, res, val}
+use Rattle.residue.specs.ResidueLaws.{val-lt, val-res_small, res-zero}
 use Rattle.residue.specs.Computed.{difference-res}
 use Rattle.field.specs.declared.Modulus.{Modulus}
 

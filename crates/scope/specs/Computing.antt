@@ -6,10 +6,10 @@ use Rattle.ring.specs.Sum.{sum, alt}
 use Rattle.ring.specs.Det.{det, skip}
 use Rattle.ring.specs.Matrix.{stack}
 use Rattle.residue.specs.Prime.{prime?}
-use Rattle.residue.specs.Residue.{residues, res, val, cut, modulus}
+use Rattle.residue.specs.Residue.{residues, res, val}
+use Rattle.residue.specs.Cut.{cut, modulus}
 use Rattle.residue.specs.Inverse.{inverse, inv}
-use Rattle.polynomial.specs.Convolution.{conv, one}
-use Rattle.polynomial.specs.Poly.{plus, minus, nil}
+use Rattle.polynomial.specs.Convolution.{conv, one, plus, minus, nil}
 use Rattle.polynomial.specs.Value.{value}
 use Rattle.polynomial.specs.Interpolation.{newton, weight, product, prod, linear}
 use Rattle.sylvester.specs.Sylvester.{top, moved, sylvester, resultant}

@@ -9,10 +9,12 @@ use Rattle.std.proofs.Common.{arith, sym, ap, ◌∙◌, subst, eqb-true}
 use Rattle.std.proofs.Math.Decide.{dec_lt}
 use Rattle.std.proofs.lemmas.Bool.{not-false}
 use Rattle.ring.specs.Ring.{Ring}
-use Rattle.residue.specs.Residue.{residues, res, res-val, res-zero}
+use Rattle.residue.specs.Residue.{residues, res}
+use Rattle.residue.specs.ResidueLaws.{res-val, res-zero}
 use Rattle.sylvester.specs.Sylvester.{resultant}
 use Rattle.sylvester.specs.Laws.{resultant_ext}
-use Rattle.polynomial.specs.Value.{AtMost, value, Takes, takes-value, value_more}
+use Rattle.polynomial.specs.Value.{AtMost, value, Takes}
+use Rattle.polynomial.specs.ValueLaws.{takes-value, value_more}
 use Rattle.euclid.specs.Row.{coef, declared, row_determinant}
 use Rattle.scope.specs.Pair.{Pair, tables, largest, occurs, degree_a, degree_b, bound, polynomial, determinant}
 use Rattle.scope.specs.Point.{tabulate, value_at, row_at, row_a, row_b}

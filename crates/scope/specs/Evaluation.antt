@@ -12,7 +12,8 @@ use Rattle.ring.specs.Ring.{Ring}
 use Rattle.ring.specs.Matrix.{stack}
 use Rattle.sylvester.specs.Sylvester.{top, moved, sylvester, resultant}
 use Rattle.polynomial.specs.Poly.{poly}
-use Rattle.polynomial.specs.Value.{Takes, total, takes-𝟘, takes-det}
+use Rattle.polynomial.specs.Value.{Takes, total}
+use Rattle.polynomial.specs.ValueLaws.{takes-𝟘, takes-det}
 
 unfoldable pub row_bound : ℕ → ℕ → ℕ → ℕ → ℕ
 row_bound zero d e i = e

@@ -13,10 +13,13 @@ use Rattle.std.specs.Prelude.{◌≡◌, ◌≢◌}
 use Rattle.ring.specs.Ring.{Ring}
 use Rattle.ring.specs.RingLaws.{sub-zero-eq}
 use Rattle.residue.specs.Prime.{Prime}
-use Rattle.residue.specs.Residue.{residues, res, val, val-res_small, val-𝟘, val-𝟙, res-val}
-use Rattle.residue.specs.Inverse.{inv, inv_right, domain}
+use Rattle.residue.specs.Residue.{residues, res, val}
+use Rattle.residue.specs.ResidueLaws.{val-res_small, val-𝟘, val-𝟙, res-val}
+use Rattle.residue.specs.Inverse.{inv}
+use Rattle.residue.specs.InverseLaws.{inv_right, domain}
 use Rattle.polynomial.specs.Value.{value}
-use Rattle.polynomial.specs.Interpolation.{Invertible, newton, newton-value, newton-bound, product, product_value, prod, invertible_regular, value_unique}
+use Rattle.polynomial.specs.Interpolation.{Invertible, newton, product, prod}
+use Rattle.polynomial.specs.InterpolationLaws.{newton-value, newton-bound, product_value, invertible_regular, value_unique}
 use Rattle.euclid.specs.Row.{row_determinant}
 use Rattle.scope.specs.Pair.{Pair, bound, determinant}
 use Rattle.scope.specs.Point.{row_a, row_b, kept, needed}

@@ -10,7 +10,8 @@
 use Rattle.std.specs.Prelude.{ℕ, zero, suc, ◌≤◌, ◌<◌, Bool, true, false, not, ◌||◌, List, [], ◌∷◌, ◌≡◌, refl, ◌↔◌, ◌≢◌, leb, ltb, eqb, length, get_or}
 use Rattle.std.proofs.Common.{arith, ap, ltb-false, leb-false, eqb-true, le-ltb, eq-eqb, ne_eqb}
 use Rattle.std.proofs.lemmas.Bool.{eqb-false, not-false, lt-leb}
-use Rattle.residue.specs.Prime.{Modulus, limit, prime?, prime?-right, prime?_all}
+use Rattle.residue.specs.Prime.{Modulus, limit, prime?}
+use Rattle.residue.specs.PrimeLaws.{prime?-right, prime?_all}
 use Rattle.scope.specs.Pair.{Pair, size}
 use Rattle.scope.specs.Point.{usable}
 use Rattle.scope.specs.Number.{◌gives◌otherwise◌, ◌then◌, outside, composite, too_high, misfit, over, among, point_number}

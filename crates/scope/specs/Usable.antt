@@ -9,7 +9,8 @@ use Rattle.std.proofs.Math.Decide.{dec_lt}
 use Rattle.std.proofs.Math.ListN.{get_or-eq_default}
 use Rattle.std.proofs.lemmas.Bool.{eqb-false, not-true}
 use Rattle.residue.specs.Prime.{Prime}
-use Rattle.residue.specs.Residue.{residues, res, val, val-lt}
+use Rattle.residue.specs.Residue.{residues, res, val}
+use Rattle.residue.specs.ResidueLaws.{val-lt}
 use Rattle.polynomial.specs.Value.{value}
 use Rattle.euclid.specs.RowLaws.{Below, Ended}
 use Rattle.euclid.specs.Sequence.{row_resultant}

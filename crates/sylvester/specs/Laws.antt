@@ -27,7 +27,8 @@ use Rattle.ring.specs.Ring.{Ring, pow, sign}
 use Rattle.ring.specs.RingLaws.{⊗-zero, zero-⊗, one-⊗, sign_twice, ⊗_left_comm, pow-one}
 use Rattle.ring.specs.Det.{det, skip}
 use Rattle.ring.specs.Sum.{sum}
-use Rattle.ring.specs.Matrix.{stack, stack_low, stack_high}
+use Rattle.ring.specs.Matrix.{stack}
+use Rattle.ring.specs.MatrixLaws.{stack_low, stack_high}
 use Rattle.ring.specs.DetLaws.{det_ext, det_column, det-zero_row, det_triangular}
 use Rattle.ring.specs.DetRows.{det-add_rows, det-scale_rows}
 use Rattle.ring.specs.DetMove.{det-stack_swap}

@@ -3,7 +3,7 @@ use Rattle.kernel.specs.RowLaws.{divisor_first, divisor_second}
 use Rattle.pukilembo.proofs.pukilembo_divisor.Goals as goal
 
 pub returns-then-first-second : goal.returns-then-first-second
-returns-then-first-second c = divisor_first _ _ _ _ c.divisor-first.ensures c.divisor-second.ensures c.if-first-second.true
+returns-then-first-second c = divisor_first _ _ _ _ c.true_length-first.ensures c.true_length-second.ensures c.if-first-second.true
 
 pub returns : goal.returns
-returns c = divisor_second _ _ _ _ c.divisor-first.ensures c.divisor-second.ensures c.if-first-second.false
+returns c = divisor_second _ _ _ _ c.true_length-first.ensures c.true_length-second.ensures c.if-first-second.false

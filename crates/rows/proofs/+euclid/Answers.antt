@@ -1,7 +1,8 @@
 -- `rows::euclid`: a constant ends the sequence, so does an empty rest; else the rest of it is worked out in the two rows.
 use Rattle.std.proofs.Common.{◌+◌, ◌-◌, ◌≤◌, ap, arith, drop, length, sym, ◌∙◌}
 use Rattle.std.proofs.Math.Seq.{length-take-le}
-use Rattle.residue.specs.Residue.{val, val-𝟘}
+use Rattle.residue.specs.Residue.{val}
+use Rattle.residue.specs.ResidueLaws.{val-𝟘}
 use Rattle.euclid.specs.FollowingLaws.{next}
 use Rattle.rows.proofs.Bounds.{declared-minus, count_constant}
 use Rattle.rows.proofs.Chain.{order-length, next-length, next_fits}

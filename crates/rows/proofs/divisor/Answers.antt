@@ -1,7 +1,7 @@
 -- `rows::divisor`: each answer is the front of its row.
 use Rattle.std.proofs.Common.{◌<◌, ◌≤◌, arith, length, refl, sym, ◌∙◌}
 use Rattle.euclid.specs.Row.{trim}
-use Rattle.rows.specs.Which.{first?_yes, first?_no, lower_first, lower_second}
+use Rattle.rows.specs.WhichLaws.{first?_yes, first?_no, lower_first, lower_second}
 use Rattle.rows.proofs.Trim.{trim-front, trim-front-length}
 use Rattle.rows.proofs.divisor.Goals as goal
 
