@@ -25,8 +25,8 @@ pub struct Place {
     file: Option<String>,
 }
 
-// What stands in code marks in a table and is no name of the house.
-const WORDS: [&str; 2] = ["requires", "&mut row[k..]"];
+/// What stands in code marks in a table and is no name of the house.
+pub const WORDS: [&str; 2] = ["requires", "&mut row[k..]"];
 
 impl House {
     pub fn read(root: &Path) -> io::Result<House> {
@@ -60,9 +60,6 @@ impl House {
 
     /// Whether a name in code marks stands where it says.
     pub fn has(&self, name: &str, place: &mut Place) -> bool {
-        if WORDS.contains(&name) {
-            return true;
-        }
         if self.crates.contains_key(name) {
             *place = Place {
                 owner: Some(name.to_string()),
@@ -100,22 +97,18 @@ impl House {
         .any(|path| self.root.join(path).exists())
     }
 
-    // A file and what it declares; or a record and its field
+    // A file and what it declares, in the crate named before it or in any where none was named; or a record and its field
     fn has_fact(&self, file: &str, fact: &str, place: &mut Place) -> bool {
-        let owners = self
-            .crates
-            .iter()
-            .filter(|(owner, _)| place.owner.as_ref().is_none_or(|o| o == *owner));
-        let everywhere = self.crates.iter();
-        let found = owners.chain(everywhere).find(|(_, c)| {
-            let in_file = c.laws.get(file).is_some_and(|text| is_declared(text, fact));
-            in_file || c.laws.values().any(|text| has_field(text, file, fact))
+        let found = self.crates.iter().find(|(owner, c)| {
+            place.owner.as_ref().is_none_or(|named| named == *owner)
+                && c.laws.get(file).is_some_and(|text| is_declared(text, fact))
         });
         if let Some((owner, _)) = found {
-            place.owner.get_or_insert_with(|| owner.clone());
+            place.owner = Some(owner.clone());
             place.file = Some(file.to_string());
         }
-        found.is_some()
+        let mut texts = self.crates.values().flat_map(|c| c.laws.values());
+        found.is_some() || texts.any(|text| has_field(text, file, fact))
     }
 
     // A word alone: declared in the last file named, a file of the last crate named, or declared or coded in that crate;

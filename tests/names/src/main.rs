@@ -41,7 +41,8 @@ fn main() {
     ] {
         for line in text.lines().filter(|line| line.starts_with('|')) {
             let mut place = Place::default();
-            for name in line.split('`').skip(1).step_by(2) {
+            let names = line.split('`').skip(1).step_by(2);
+            for name in names.filter(|name| !house::WORDS.contains(name)) {
                 count(
                     house.has(name, &mut place),
                     &format!("{document}: `{name}` stands nowhere: {line}"),
