@@ -1,6 +1,6 @@
 // One record of a deck: the state after it, the line that it prints, and whether the run stops.
 // The job in a state comes from an opening and offers alone, so no call here checks it again.
-ghost use Rattle.std.specs.Prelude.{◌≤◌, ◌≡◌, [], length};
+ghost use Rattle.std.specs.Prelude.{◌≤◌, ◌≡◌, []};
 ghost use Rattle.decks.specs.declared.Stage.TheVariants.{Opened};
 ghost use Rattle.decks.specs.Deck.{deck_number, fresh, point_line, read_line, with_job};
 ghost use Rattle.decks.specs.Stepped.{stepped};

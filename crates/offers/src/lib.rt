@@ -2,7 +2,7 @@
 // Whoever makes such a job has tested its record, or has it from an opening; so nothing here tests it again.
 #![tactic(auto)]
 
-ghost use Rattle.std.specs.Prelude.{◌≡◌, ℕ, true, ◌≤◌, ◌++◌, length, drop};
+ghost use Rattle.std.specs.Prelude.{◌≡◌, true, ◌≤◌, ◌++◌, length, drop};
 ghost use Rattle.residue.specs.Residue.{val};
 ghost use Rattle.scope.specs.Point.{tabulate, needed};
 ghost use Rattle.scope.specs.Number.{point_number};

@@ -3,15 +3,13 @@
 --   horner          over a whole list, that is the value at a of the polynomial with these coefficients
 --   value_front     the first coefficients stand in a front of the list
 --   front-value     so the value of a front is that of as many coefficients
---   value-below     a residue's number is below p
 use Rattle.std.proofs.Common.{ℕ, suc, ◌+◌, ◌*◌, ◌%◌, ◌<◌, List, [], ◌∷◌, ◌≡◌, reverse, length, get_or, take, length-take-le, ◌≤◌, arith, sym, ap, ◌∙◌}
 use Rattle.std.specs.List.{fold}
 use Rattle.std.proofs.lemmas.List.Sums.{fold-append}
 use Rattle.std.proofs.lemmas.List.{reverse-append, get_or-take}
-use Rattle.ring.specs.Ring.{Ring}
 use Rattle.ring.specs.Sum.{sum}
 use Rattle.residue.specs.Residue.{residues, res, val}
-use Rattle.residue.specs.ResidueLaws.{res-val, val-res, val-𝟘, val-lt, res-+, res-*}
+use Rattle.residue.specs.ResidueLaws.{res-val, val-res, val-𝟘, res-+, res-*}
 use Rattle.polynomial.specs.Value.{value}
 use Rattle.polynomial.specs.ValueLaws.{value_step, value_ext}
 use Rattle.points.specs.Step.{value_of}
@@ -52,6 +50,3 @@ value_front p x n k l fits =
 
 pub front-value : (p x n : ℕ) (l : List ℕ) → n ≤ length l → {r : ℕ} → r ≡ value_of p (length (take n l)) (take n l) x → r ≡ value_of p n l x
 front-value p x n l fits e = e ∙ ap (λ (k : ℕ). value_of p k (take n l) x) (length-take-le n l fits) ∙ value_front p x n n l (omega arith)
-
-pub value-below : (p : ℕ) → 0 < p → (x : Ring.C (residues p)) {r : ℕ} → r ≡ val p x → r < p
-value-below p pos x e = omega (arith, val-lt p pos x)

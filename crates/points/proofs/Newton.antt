@@ -23,7 +23,7 @@ use Rattle.ring.specs.RingLaws.{zero-⊕, zero-⊗, neg-⊗}
 use Rattle.residue.specs.Prime.{Prime}
 use Rattle.residue.specs.Computed.{difference-res, product-res, mul-sub-res, inverse-res}
 use Rattle.residue.specs.Residue.{residues, res, val}
-use Rattle.residue.specs.ResidueLaws.{val_inj, val-lt, val-res_small, val-𝟘, val-𝟙, res-val, res-zero, res-mod, res-+, res-*}
+use Rattle.residue.specs.ResidueLaws.{val_inj, val-lt, val-𝟘, val-𝟙, res-val, res-zero, res-mod, res-+, res-*}
 use Rattle.residue.specs.Inverse.{inverse, inv}
 use Rattle.polynomial.specs.Convolution.{one}
 use Rattle.polynomial.specs.Value.{value}
@@ -35,6 +35,7 @@ use Rattle.scope.specs.Recovery.{Different, different_invertible}
 use Rattle.points.specs.Step.{value_of, weight_of, plus_multiple, times_linear}
 use Rattle.points.proofs.Stores.{list_of, front_new, front_old, front_length}
 use Rattle.points.proofs.Horner.{value_front}
+use Rattle.rows.proofs.Value.{val_is}
 
 module _ (p : ℕ) (count : ℕ) (xs vs : List ℕ) where
   open residues p use {C, ◌⊕◌, ◌⊗◌, ⊖◌, 𝟘, 𝟙, ⊕_comm}
@@ -88,10 +89,6 @@ module _ (p : ℕ) (count : ℕ) (xs vs : List ℕ) where
     reached-small {t = t} h m k b =
         let small : k < m = omega (arith, length-take m t) in
         omega (arith, get_or-take m t k 0 small, reached-below h k (omega (arith, length-take m t, h.long_t)))
-
-    -- a remainder by p is the number of its residue
-    number : (r : ℕ) {y : C} → r < p → res p r ≡ y → r ≡ val p y
-    number r b e = sym (val-res_small b) ∙ ap (val p) e
 
     -- a list of residues' numbers has the value of those residues
     value_same : (n : ℕ) (l : List ℕ) (f : ℕ → C) (a : ℕ) → ((k : ℕ) → k < n → get_or l k 0 ≡ val p (f k))
@@ -156,7 +153,7 @@ module _ (p : ℕ) (count : ℕ) (xs vs : List ℕ) where
       coefficient_new : (k : ℕ) → k < n + 1 → plus_multiple p c t l k ≡ coefficient (suc n) k
       unfolding plus_multiple newton
       coefficient_new k b =
-          number ((c * get_or t k 0 + get_or l k 0) % p) (mod-lt (c * get_or t k 0 + get_or l k 0) pos)
+          val_is p (mod-lt (c * get_or t k 0 + get_or l k 0) pos)
           (res-mod p pos (c * get_or t k 0 + get_or l k 0)
           ∙ res-+ p (c * get_or t k 0) (get_or l k 0)
           ∙ ap₂ (λ (s r : C). s ⊕ r)
@@ -171,13 +168,13 @@ module _ (p : ℕ) (count : ℕ) (xs vs : List ℕ) where
       product_new : (k : ℕ) → k < n + 2 → times_linear p (get_or xs n 0) t k ≡ val p (product (residues p) (suc n) x k)
       unfolding times_linear
       product_new zero b =
-          number _ (mod-lt _ pos)
+          val_is p (mod-lt _ pos)
           (mul-sub-res p pos 0 (get_or xs n 0) (get_or t 0 0) refl
           ∙ ap₂ (λ (s r : C). s ⊕ (⊖ (x n ⊗ r))) (res-zero p) (ap (res p) (h.products 0 (omega arith)) ∙ res-val p (g 0))
           ∙ zero-⊕ (residues p) (⊖ (x n ⊗ g 0))
           ∙ sym (product_first (residues p) n x ∙ neg-⊗ (residues p) (x n) (g 0)))
       product_new (suc k) b =
-          number _ (mod-lt _ pos)
+          val_is p (mod-lt _ pos)
           (mul-sub-res p pos (get_or t k 0) (get_or xs n 0) (get_or t (suc k) 0) refl
           ∙ ap₂ (λ (s r : C). s ⊕ (⊖ (x n ⊗ r))) (ap (res p) (h.products k (omega arith)) ∙ res-val p (g k)) (ap (res p) (h.products (suc k) (omega arith)) ∙ res-val p (g (suc k)))
           ∙ ⊕_comm (g k) (⊖ (x n ⊗ g (suc k)))

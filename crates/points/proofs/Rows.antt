@@ -6,28 +6,27 @@
 use Prim.Native.Nat.{ℕ, suc, ◌+◌, ◌*◌, ◌<◌, ◌≤◌}
 use native.Mathlib.Numerals.{add-one}
 use native.Mathlib.Omega.{arith}
-use mathlib.Core.Bool.{Bool, cond}
 use mathlib.Core.List.{List}
 use mathlib.Core.Path.{◌≡◌, sym, ap, ◌∙◌}
 use lib.ListN.{length, get_or, take, drop, length-drop}
 use Rattle.std.proofs.Common.{length-take-le}
 use lib.Seq.{get_or-drop}
 use Rattle.std.proofs.lemmas.List.{get_or-take}
-use borrow.Author.Tests.{le-leb}
 use Rattle.ring.specs.Ring.{Ring}
 use Rattle.residue.specs.Residue.{residues, res, val}
 use Rattle.residue.specs.ResidueLaws.{res-zero}
 use Rattle.polynomial.specs.Value.{value}
 use Rattle.polynomial.specs.ValueLaws.{value_ext, value_more}
 use Rattle.scope.specs.Pair.{place, term, polynomial}
+use Rattle.scope.specs.TableLaws.{term_inside}
 use Rattle.scope.specs.Point.{tabulate, value_at, row_at}
 use Rattle.points.specs.Table.{IsTable}
 use Rattle.points.specs.Step.{value_of}
 use Rattle.points.proofs.Stores.{Stored, stored_all}
 
 pub term_at : (t : List ℕ) (i j : ℕ) → j ≤ 16 → term 16 t i j ≡ get_or t (i * 17 + j) 0
-unfolding term place
-term_at t i j h = ap (λ (b : Bool). cond b (get_or t (i * 17 + j) 0) 0) (le-leb j 16 h)
+unfolding place
+term_at t i j h = term_inside 16 t i j h
 
 pub row-value : (p a : ℕ) {m d : ℕ} {t : List ℕ} → IsTable m d t → (i : ℕ) → i ≤ m → (n : ℕ) → n ≡ suc d → {r : ℕ}
     → r ≡ value_of p (length (take n (drop (i * 17) t))) (take n (drop (i * 17) t)) a → r ≡ value_at p 16 (term 16 t) i a

@@ -1,7 +1,7 @@
 // Arithmetic on lent slices: values of polynomials, a pair of tables at a point, and Newton's rule.
 #![tactic(auto)]
 
-ghost use Rattle.std.specs.Prelude.{◌≡◌, ℕ, cond, not, ◌++◌, suc, ◌+◌, ◌*◌, ◌-◌, ◌<◌, ◌≤◌, eqb, length, get_or, replicate, Option, Some, None, IfSome};
+ghost use Rattle.std.specs.Prelude.{◌≡◌, ℕ, cond, not, ◌+◌, ◌*◌, ◌-◌, ◌<◌, ◌≤◌, eqb, length, get_or, Option, Some, None, IfSome};
 ghost use Rattle.residue.specs.Residue.{residues, res, val};
 ghost use Rattle.residue.specs.Inverse.{inv};
 ghost use Rattle.polynomial.specs.Interpolation.{newton};

@@ -9,7 +9,6 @@
 --   takes_unique       it takes one value only
 --   takes-⊕ ..         the value and the bound of a sum, a negative, a product; degrees add in a product
 --   takes-det          the determinant takes the determinant of the values; the degree bounds of the rows add
---   skip-bound         a column of a minor is a column of the matrix
 use Prim.Native.Nat.{ℕ, zero, suc, ◌+◌, ◌≤◌, ◌<◌}
 use Rattle.std.proofs.Common.{zero-add, zero-lt-suc, le-add_left, lt_of_le_of_lt, not-suc-le-zero, le_of_suc-le-suc, lt_irrefl, arith, ◌∙◌}
 use Rattle.std.proofs.Math.Nat.{suc-add, suc-le-suc_iff}
@@ -20,18 +19,11 @@ use Rattle.ring.specs.RingLaws.{zero-⊗, ⊗-zero, dist-⊗, neg-⊗, neg-zero,
 use Rattle.ring.specs.Sum.{sum, alt}
 use Rattle.ring.specs.SumLaws.{sum_ext, sum-zero, sum-⊕, sum-neg, scale-sum, sum-last, sum_more}
 use Rattle.ring.specs.Det.{det, minor, skip}
+use Rattle.ring.specs.DetLaws.{skip-lt}
 use Rattle.polynomial.specs.Convolution.{conv, one, plus, minus, nil}
 use Rattle.polynomial.specs.ConvolutionLaws.{conv-zero}
 use Rattle.polynomial.specs.Poly.{poly}
 use Rattle.polynomial.specs.Value.{AtMost, value, Takes, total}
-
--- a column of a minor is a column of the matrix
-pub skip-bound : (j k n : ℕ) → k < n → skip j k < suc n
-unfolding skip
-skip-bound zero k n b = suc-le-suc_iff.1 b
-skip-bound (suc j) zero n b = zero-lt-suc n
-skip-bound (suc j) (suc k) (suc n) b = suc-le-suc_iff.1 (skip-bound j k n (suc-le-suc_iff.0 b))
-skip-bound (suc j) (suc k) zero b = absurd (not-suc-le-zero b)
 
 module _ (R : Ring) where
   open R use {C, ◌⊕◌, ◌⊗◌, ⊖◌, 𝟘, 𝟙, ⊕_assoc, ⊕-zero, ⊗_assoc, ⊗-one, ⊗_dist}
@@ -212,4 +204,4 @@ module _ (R : Ring) where
       (λ j b. takes-⊗ x (e zero) (total n (λ i. e (suc i))) (A zero j) (det (poly R) n (minor (poly R) A j)) (B zero j) (det R n (minor R B j))
       (h zero j (zero-lt-suc n) b)
       (takes-det x n (minor (poly R) A j) (minor R B j) (λ i. e (suc i))
-      (λ i k c l. h (suc i) (skip j k) (suc-le-suc_iff.1 c) (skip-bound j k n l))))
+      (λ i k c l. h (suc i) (skip j k) (suc-le-suc_iff.1 c) (skip-lt j k n l))))

@@ -8,13 +8,14 @@
 --   shot_refused               the opening refuses
 --   shot_short                 9: the output is short
 --   shot_read                  the read of the filled job
-use Prim.Native.Nat.{ℕ, zero, suc, ◌<◌, ◌≤◌}
+use Prim.Native.Nat.{ℕ, zero, ◌<◌, ◌≤◌}
 use native.Mathlib.Omega.{arith}
 use mathlib.Core.Bool.{Bool, true, false, cond}
 use Rattle.std.proofs.Common.{Err}
 use Rattle.checks.specs.declared.Refusal.{Refusal}
 use Rattle.checks.specs.declared.Refusal.TheVariants.{Wanted}
 use Rattle.checks.specs.Outcome.{number_of, number_of_bounds}
+use Rattle.checks.specs.Refusal.{then_refused}
 use mathlib.Core.List.{List, [], ◌∷◌, append-nil}
 use mathlib.Core.Path.{◌≡◌, refl, sym, ap, ◌∙◌, subst}
 use lib.Dec.{eqb}
@@ -40,11 +41,6 @@ use Rattle.job.specs.OneShot.{smallest-length, one_shot_calls}
 use Rattle.reads.specs.Answered.{answered}
 use Rattle.reads.specs.Read.{ReadSound}
 use Rattle.reads.specs.Shot.{Shot}
-
-then_refused : (r x : ℕ) → (r ≡ 0 → ⊥) → (r then x) ≡ r
-unfolding ◌then◌
-then_refused zero x h = absurd (h refl)
-then_refused (suc r) x h = refl
 
 gives_low : (t : Bool) (r s : ℕ) → r ≤ 8 → s ≤ 8 → (t gives r otherwise s) ≤ 8
 unfolding ◌gives◌otherwise◌
@@ -120,7 +116,7 @@ module _ (p m e n f : ℕ) (s t : List ℕ) where
         }
 
     refused : (r : ℕ) → r ≡ strict_number p m e n f s t → (r ≡ 0 → ⊥) → Shot p m e n f s t out (record { number = r; wanted = 0; degree = 0; zero = 0 }) out
-    refused r q h = refusal r (unfold shot_answer one_shot_number strict_number in rw (← q) (then_refused r _ h)) h
+    refused r q h = refusal r (unfold shot_answer one_shot_number strict_number in rw (← q) (then_refused r _ (omega arith))) h
 
     -- no opening says how many points are wanted
     pub shot_refused : (r : Refusal) → number_of r ≡ strict_number p m e n f s t → Shot p m e n f s t out (answered (Err r)) out

@@ -38,7 +38,7 @@ pub ended_row : {p : ℕ} {r : List ℕ} → IsDeclared p r → get_or r (length
 ended_row {p} {r} h lead = record { ended = (h.some, rw (declared-minus r) at lead); below = h.below; short = h.short }
 
 module _ (p : Modulus) (u w : List ℕ) where
-  open residues p.value use {C, ◌⊗◌}
+  open residues p.value use {◌⊗◌}
 
   pub plain_value_lem : IsRow p.value u → IsRow p.value w → row_resultant p.value u w ≡ row_determinant p.value u w
   plain_value_lem hu hw =
@@ -74,7 +74,7 @@ module _ (p : Modulus) (u w : List ℕ) where
       val_is p.value low (is ∙ power_is (declared-minus w) ∙ sym (determinant_constant p.value u w (omega (arith, declared-minus u))))
 
 module _ (p : Modulus) (u w : List ℕ) {len : ℕ} (long : len ≡ length (trim w)) where
-  open residues p.value use {C, ◌⊗◌}
+  open residues p.value use {◌⊗◌}
 
   pub vanish-value : length u - 1 ≢ 0 → len ≡ 0 → 0 ≡ val p.value (row_determinant p.value u w)
   vanish-value some e =

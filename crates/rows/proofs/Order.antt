@@ -39,7 +39,7 @@ record BySize (p : ℕ) (t : Bool) (a b u w : List ℕ) (v s : ℕ) (place : Pla
   lies : Lies (monic p (last_row (pick t (sequence p b a) (sequence p a b)))) u w place
 
 module _ (p : ℕ) (a b : List ℕ) (ha : IsRow p a) (hb : IsRow p b) where
-  open residues p use {C, ◌⊗◌}
+  open residues p use {◌⊗◌}
 
   degree_is : {r : List ℕ} → IsRow p r → degree r ≡ length r - 1
   degree_is {r} h = ended-degree r h.ended ∙ sym (declared-minus r)

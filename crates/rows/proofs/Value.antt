@@ -14,7 +14,7 @@ use Rattle.residue.specs.Computed.{difference-res}
 use Rattle.field.specs.declared.Modulus.{Modulus}
 
 module _ (p : ℕ) where
-  open residues p use {C, ◌⊕◌, ◌⊗◌, ⊖◌, 𝟘, 𝟙}
+  open residues p use {C, ◌⊕◌, ◌⊗◌, ⊖◌, 𝟙}
 
   -- twice the half, and the last digit
   halves : (n : ℕ) → sign (residues p) n ≡ sign (residues p) (n % 2)
