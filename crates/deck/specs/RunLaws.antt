@@ -3,6 +3,7 @@
 --   takes_unread, takes_end,
 --   takes_whole, takes_cut                what the code does with an arrival, by its kinds
 --   turned_unread                         a turn in which a read failed
+--   told_fit                              a state that is fit stays so, whatever arrives
 --   told_unread                           a failed read stops the run
 --   past_low                              the next record begins 8 bytes further on at most
 --   turns_snoc                            one turn more
@@ -37,8 +38,9 @@ use Rattle.decks.specs.Deck.{body_length, deck_number, Outcome, before, halted, 
 use Rattle.decks.specs.DeckLaws.{stepped_refused, follow, stepping, deck-stepping}
 use Rattle.decks.specs.Stepped.{Stepped, stepped}
 use Rattle.decks.specs.Refusal.{passed, whole_body}
+use Rattle.decks.specs.State.{Fit}
 use Rattle.decks.specs.Step.{Steps}
-use Rattle.decks.specs.StepLaws.{body_low}
+use Rattle.decks.specs.StepLaws.{stepped_fit, body_low}
 use Rattle.stream.specs.declared.Record.{Record}
 use Rattle.stream.specs.declared.Stop.TheVariants.{Ended, Failed}
 use Rattle.stream.specs.declared.Arrival.{Arrival}
@@ -142,6 +144,14 @@ turned_unread run run' a held text Read input input' output t here bytes end =
     }
 turned_unread run run' a held text Write input input' output t here bytes end = absurd (t.only refl)
 turned_unread run run' a held text Records input input' output t here bytes end = absurd (t.lasts refl)
+
+pub told_fit : (d : Deck) (offset : ℕ) (a : Arrival) → Fit d → Fit (told d offset a).state
+unfolding told
+told_fit d offset (Whole r) fit = stepped_fit d r.kind r.body.items offset fit
+told_fit d offset (Cut r Ended) fit = stepped_fit d r.kind r.body.items offset fit
+told_fit d offset (Cut r Failed) fit = fit
+told_fit d offset (Nothing Ended) fit = fit
+told_fit d offset (Nothing Failed) fit = fit
 
 pub past_low : (a : Arrival) → past a ≤ 8
 unfolding past

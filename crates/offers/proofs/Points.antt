@@ -3,10 +3,11 @@
 --   admitted       a refusal of the point, in the scope's order, or none
 --   usable_lent    a point is usable to the lent pair where it is to the job's
 --   admitting      these, for the tests in turn
-use Rattle.std.proofs.Common.{ℕ, Bool, true, false, cond, not, ◌≡◌, refl, ap, leb}
+use Rattle.std.proofs.Common.{ℕ, cond, not, ◌≡◌, ap, leb}
 use Rattle.std.proofs.lemmas.Bool.Decides.{nat_tests}
+use Rattle.checks.specs.Refusal.{gives_cond}
 use Rattle.scope.specs.Point.{usable}
-use Rattle.scope.specs.Number.{◌gives◌otherwise◌, among, point_number}
+use Rattle.scope.specs.Number.{among, point_number}
 use Rattle.points.specs.declared.Pair.{Pair}
 use Rattle.points.specs.Lent.{pair_at}
 use Rattle.job.specs.declared.Job.{Job}
@@ -14,17 +15,10 @@ use Rattle.job.specs.Job.{pair_of, kept_points}
 use Rattle.offers.specs.Lent.{IsPairOf, lent_pair}
 use Rattle.offers.specs.Among.{among_any}
 
-in_turn : (large among on : Bool) → (large gives 10 otherwise among gives 12 otherwise not on gives 11 otherwise 0) ≡ cond large 10 (cond among 12 (cond on 0 11))
-unfolding ◌gives◌otherwise◌
-in_turn true among on = refl
-in_turn false true on = refl
-in_turn false false true = refl
-in_turn false false false = refl
-
 pub admitted : (j : Job) (a : ℕ)
-    → point_number (pair_of j) (kept_points j) a ≡ cond (leb j.p a) 10 (cond (among a (kept_points j)) 12 (cond (usable (pair_of j) a) 0 11))
+    → point_number (pair_of j) (kept_points j) a ≡ cond (leb j.p a) 10 (cond (among a (kept_points j)) 12 (cond (not (usable (pair_of j) a)) 11 0))
 unfolding point_number pair_of
-admitted j a = in_turn (leb j.p a) (among a (kept_points j)) (usable (pair_of j) a)
+admitted j a = simp gives_cond
 
 pub usable_lent : (j : Job) (P : Pair) (a : ℕ) → IsPairOf j P → usable (pair_at P) a ≡ usable (pair_of j) a
 usable_lent j P a h = ap (λ Q. usable Q a) (lent_pair h)

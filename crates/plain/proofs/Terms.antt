@@ -1,6 +1,5 @@
 -- Expansion along the first row, as the code works it out: signed terms, added up one after the other.
 --
---   sign_even, sign_odd    (-1)^j by the last binary digit of j
 --   det-signed             a determinant is the sum of its signed terms
 --   det-minor              a minor of a part of a matrix is a part again: one row further down, in the other columns
 --   remainder-below        a remainder by p is below p
@@ -19,7 +18,7 @@ use lib.ListN.{length, get_or}
 use Rattle.std.specs.List.{remove}
 use Rattle.std.proofs.lemmas.List.Edits.{length-remove}
 use Rattle.ring.specs.Ring.{Ring, sign}
-use Rattle.ring.specs.RingLaws.{one-⊗, zero-⊕, neg-⊗, neg-neg}
+use Rattle.ring.specs.RingLaws.{one-⊗, zero-⊕, neg-⊗, sign_even, sign_odd}
 use Rattle.ring.specs.Sum.{sum, alt}
 use Rattle.ring.specs.SumLaws.{sum-neg, sum_ext, sum-last}
 use Rattle.ring.specs.Det.{minor, det}
@@ -32,18 +31,6 @@ use Rattle.plain.proofs.Columns.{removed}
 
 module _ (R : Ring) where
   open R use {C, ◌⊕◌, ◌⊗◌, ⊖◌, 𝟙}
-
-  pub sign_even : (j : ℕ) → j % 2 ≡ 0 → sign R j ≡ 𝟙
-  unfolding sign
-  sign_even zero h = refl
-  sign_even (suc zero) h = absurd (omega arith)
-  sign_even (suc (suc j)) h = neg-neg R (sign R j) ∙ sign_even j (omega arith)
-
-  pub sign_odd : (j : ℕ) → (j % 2 ≡ 0 → ⊥) → sign R j ≡ ⊖ 𝟙
-  unfolding sign
-  sign_odd zero h = absurd (h refl)
-  sign_odd (suc zero) h = refl
-  sign_odd (suc (suc j)) h = neg-neg R (sign R j) ∙ sign_odd j (λ e. h (omega arith))
 
   -- an alternating sum is a sum of signed terms
   alt-sum : (n : ℕ) (f : ℕ → C) → alt R n f ≡ sum R n (λ j. sign R j ⊗ f j)

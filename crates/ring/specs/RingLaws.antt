@@ -1,6 +1,6 @@
 -- Laws of every commutative ring: zero, negatives, powers and signs.
-use Prim.Native.Nat.{ℕ, zero, suc, ◌+◌, ◌*◌}
-use Rattle.std.proofs.Common.{◌∙◌}
+use Prim.Native.Nat.{ℕ, zero, suc, ◌+◌, ◌*◌, ◌%◌}
+use Rattle.std.proofs.Common.{◌∙◌, arith}
 use Rattle.std.proofs.Math.Nat.{suc-add, zero-add, mul-suc, mul-zero}
 use Rattle.std.specs.Prelude.{◌≡◌}
 use Rattle.std.proofs.Math.Path.{refl, sym, ap}
@@ -108,6 +108,19 @@ module _ (R : Ring) where
   unfolding sign
   sign_sq zero = ⊗-one 𝟙
   sign_sq (suc n) = neg-⊗ (sign R n) (⊖ (sign R n)) ∙ ap (λ (t : C). ⊖ t) (⊗-neg (sign R n) (sign R n)) ∙ neg-neg (sign R n ⊗ sign R n) ∙ sign_sq n
+
+  -- a sign by the last binary digit
+  pub sign_even : (n : ℕ) → n % 2 ≡ 0 → sign R n ≡ 𝟙
+  unfolding sign
+  sign_even zero h = refl
+  sign_even (suc zero) h = absurd (omega arith)
+  sign_even (suc (suc n)) h = neg-neg (sign R n) ∙ sign_even n (omega arith)
+
+  pub sign_odd : (n : ℕ) → (n % 2 ≡ 0 → ⊥) → sign R n ≡ ⊖ 𝟙
+  unfolding sign
+  sign_odd zero h = absurd (h refl)
+  sign_odd (suc zero) h = refl
+  sign_odd (suc (suc n)) h = neg-neg (sign R n) ∙ sign_odd n (λ e. h (omega arith))
 
   -- a sign taken twice goes away
   pub sign_twice : (m n : ℕ) → sign R (m + n) ⊗ sign R n ≡ sign R m
