@@ -185,7 +185,7 @@ impl Sheet<'_> {
 
 // What is refused of a modulus: Range, Composite
 #[tactic(auto, using(crate::proofs::Chain::chain), unfolding(crate::specs::Parts::modulus_number))]
-pub fn modulus(p: u32) -> Result<Modulus, Refusal>
+fn modulus(p: u32) -> Result<Modulus, Refusal>
     ensures number { outcome result ≡ modulus_number p }
     ensures ok { IfOk result (λ q. q.value ≡ p) }
 {
@@ -266,7 +266,7 @@ pub fn plain(p: u32, a: &[u32], b: &[u32]) -> Result<Modulus, Refusal>
     Ok(q)
 }
 
-// Division in the work row: 2, 3, 4, 6, 15; other tests than those of `row`
+// Division in the work row: 2, 3, 4, 6, 15
 #[tactic(auto, using(crate::proofs::Chain::chain, crate::specs::Parts::division_parts))]
 pub fn division(p: u32, row: &[u32], b: &[u32]) -> Result<Modulus, Refusal>
     ensures number { outcome result ≡ Number.division_number p row.now b.now }

@@ -1,5 +1,5 @@
--- What a run of the program does with what arrives, and that what arrives is what was read. Only what the system's streams
--- read and write is left out: no contract can say it.
+-- What a run of the program does with what arrives, and that what arrives is what was read. Two things are left out, since no
+-- contract can say them: what the system's streams read and write, and that what is told as failed did fail.
 --
 --   message f            what is told on standard error
 --   told d offset a      what an arrival does in the state d: a failed read stops the run, the end of input prints `end` and

@@ -9,10 +9,10 @@ ghost use Rattle.decks.specs.Kind.{kind_number, refusal_number, Names, Sides, Ad
 use crate::{Deck, Stage};
 use job::Job;
 
-// What a record is, by the number of its kind.
+// What a record is.
 #[derive(Clone, Copy, PartialEq, Eq)]
 pub enum Kind {
-    Modulus = 1,
+    Modulus,
     Degrees,
     Place,
     Open,
@@ -75,7 +75,7 @@ impl Kind {
 }
 
 impl Refusal {
-    // The number that a refused record prints, by the name that it has in `checks` too.
+    // The number that a refused record prints; the function is named as in `checks`.
     pub fn number(self) -> u32
         ensures { result ≡ refusal_number self }
     {

@@ -75,8 +75,9 @@ impl Modulus {
     }
 }
 
-// The five that follow take p as a number, and ask of it no more than that it bounds its remainders: `rows::subtract`,
-// `points::usable_at` and `plain::Matrix::determinant`, which docs/PROMISES.md names, know no more of it than that or 2 <= p.
+// The five that follow take p as a number, and ask no more than that it is not 0, or that what is given is below it:
+// `rows::subtract`, `points::usable_at` and `plain::Matrix::determinant`, which docs/PROMISES.md names, know no more of it
+// than that or 2 <= p.
 
 // a + b modulo p: the sum is made only where it stays below p
 pub fn add(p: u32, a: u32, b: u32) -> u32

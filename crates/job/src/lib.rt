@@ -50,7 +50,8 @@ pub struct JobAnswer {
     pub job: Job,
 }
 
-// What a read or a one-shot answers, as C sees it. wanted: how many points are still wanted, with 14. zero: 1 where the polynomial is zero.
+// What a read or a one-shot answers, as C sees it. wanted: how many points are still wanted, with 14. zero: 1 where the
+// polynomial is zero.
 #[repr(C)]
 #[derive(Clone, Copy)]
 pub struct ReadAnswer {

@@ -75,8 +75,7 @@ pub fn plain_determinant(p: u32, a: &[u32], b: &[u32]) -> PlainAnswer
     }
 }
 
-// Division in the work row: remainder and quotient take the dividend's place. It answers another record than the plain
-// determinant, and works in place.
+// Division in the work row: remainder and quotient take the dividend's place.
 #[tactic(auto, using(crate::specs::RowLaws::row_laws))]
 pub fn divide(p: u32, row: &mut [u32], b: &[u32]) -> DivisionAnswer
     ensures { DivisionResult p row.old b.now result row.new }

@@ -18,7 +18,8 @@ ghost use Rattle.rows.specs.Last.{last_row, row_sequence, swapped, Lies};
 use field::Modulus;
 
 // What is asked of rows, `Below`, `IsRow` and `IsDeclared`, stands in clauses and in no type: rows are worked on in place,
-// and are no such rows meanwhile. The two that are only read, those of `resultant`, are copied into such.
+// and are no such rows meanwhile. A row that is only read is the divisor of one that is worked on, or, in `resultant`, is
+// copied into one.
 
 // part[i] - q * b[i] for every entry of b, each in its place
 pub fn subtract(p: u32, q: u32, part: &mut [u32], b: &[u32])
@@ -238,7 +239,8 @@ pub fn resultant_in(p: Modulus, u: &mut [u32], w: &mut [u32]) -> Found
     euclid(p, u, w)
 }
 
-// The row resultant of two lent rows, which stay as they are
+// The row resultant of two lent rows, which stay as they are. Its work rows are gone, so nothing is said of where the last
+// one lies.
 pub fn resultant(p: Modulus, a: &[u32], b: &[u32]) -> Found
     requires a_row { IsRow p.value a.now }
     requires b_row { IsRow p.value b.now }

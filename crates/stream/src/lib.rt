@@ -1,4 +1,5 @@
-// A deck's records from a reader of bytes: what a record's arrival holds is what the reader gave, and why it ended is told.
+// A deck's records from a reader of bytes: what a record's arrival holds is what the reader gave, and why it ended is told;
+// that a read failed is the reader's word alone.
 // Of the system's own input, whose bytes nothing knows, that says no more than how many there are.
 #![tactic(auto)]
 
