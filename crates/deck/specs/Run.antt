@@ -33,7 +33,7 @@ use Rattle.decks.specs.Stepped.{Stepped, stepped}
 use Rattle.stream.specs.declared.Stop.TheVariants.{Ended, Failed}
 use Rattle.stream.specs.declared.Arrival.{Arrival}
 use Rattle.stream.specs.declared.Arrival.TheVariants.{Whole, Cut, Nothing}
-use Rattle.stream.specs.Arrival.{Arrives, bytes_of, stop_of}
+use Rattle.stream.specs.Arrival.{Arrives, body_of, bytes_of, stop_of}
 use Rattle.deck.specs.declared.Failure.{Failure}
 use Rattle.deck.specs.declared.Failure.TheVariants.{Read, Write, Records}
 use Rattle.deck.specs.declared.Run.{Run}
@@ -45,8 +45,8 @@ message Write = codes "deck: writing failed"
 message Records = codes "deck: too many records"
 
 unfoldable pub told : Deck → ℕ → Arrival → Stepped
-told d offset (Whole r) = stepped d r.kind r.body.items offset
-told d offset (Cut r Ended) = stepped d r.kind r.body.items offset
+told d offset (Whole r) = stepped d r.kind (body_of r) offset
+told d offset (Cut r Ended) = stepped d r.kind (body_of r) offset
 told d offset (Cut r Failed) = record { state = d; text = []; halt = true }
 told d offset (Nothing Ended) = record { state = d; text = line end_word []; halt = true }
 told d offset (Nothing Failed) = record { state = d; text = []; halt = true }

@@ -41,11 +41,11 @@ use Rattle.decks.specs.Refusal.{passed, whole_body}
 use Rattle.decks.specs.State.{Fit}
 use Rattle.decks.specs.Step.{Steps}
 use Rattle.decks.specs.StepLaws.{stepped_fit, body_low}
-use Rattle.stream.specs.declared.Record.{Record}
+use Rattle.stream.specs.declared.records.Record.{Record}
 use Rattle.stream.specs.declared.Stop.TheVariants.{Ended, Failed}
 use Rattle.stream.specs.declared.Arrival.{Arrival}
 use Rattle.stream.specs.declared.Arrival.TheVariants.{Whole, Cut, Nothing}
-use Rattle.stream.specs.Arrival.{Arrives, bytes_of, stop_of}
+use Rattle.stream.specs.Arrival.{Arrives, body_of, bytes_of, stop_of}
 use Rattle.deck.specs.declared.Failure.{Failure}
 use Rattle.deck.specs.declared.Failure.TheVariants.{Read, Write, Records}
 use Rattle.deck.specs.declared.Run.{Run}
@@ -98,7 +98,7 @@ module _ (run : Run) where
   takes_end a held text r n t e =
       rw n (read_takes run (Nothing Ended) run held text true r (record { state = refl; offset = omega arith }) refl t (λ u. cc) e)
 
-  module _ (run' : Run) (r : Record) (held text : List ℕ) (stops : Bool) (s : Steps (stepped run.deck.state r.kind r.body.items run.offset) run'.deck.state stops text)
+  module _ (run' : Run) (r : Record) (held text : List ℕ) (stops : Bool) (s : Steps (stepped run.deck.state r.kind (body_of r) run.offset) run'.deck.state stops text)
       (o : run'.offset ≡ run.offset + (1 + body_length r.kind)) (a : Arrival) where
     pub takes_whole : a ≡ Whole r → Takes run a run' held text (Ok stops)
     unfolding told past
@@ -147,8 +147,8 @@ turned_unread run run' a held text Records input input' output t here bytes end 
 
 pub told_fit : (d : Deck) (offset : ℕ) (a : Arrival) → Fit d → Fit (told d offset a).state
 unfolding told
-told_fit d offset (Whole r) fit = stepped_fit d r.kind r.body.items offset fit
-told_fit d offset (Cut r Ended) fit = stepped_fit d r.kind r.body.items offset fit
+told_fit d offset (Whole r) fit = stepped_fit d r.kind (body_of r) offset fit
+told_fit d offset (Cut r Ended) fit = stepped_fit d r.kind (body_of r) offset fit
 told_fit d offset (Cut r Failed) fit = fit
 told_fit d offset (Nothing Ended) fit = fit
 told_fit d offset (Nothing Failed) fit = fit
@@ -266,7 +266,7 @@ going_whole d k body offset h =
 pub ended-stops : (d : Deck) (offset : ℕ) (a : Arrival) → Arrives a → stop_of a ≡ Some Ended → (told d offset a).halt ≡ false → ⊥
 unfolding told
 ended-stops d offset (Whole r) here e h = cc
-ended-stops d offset (Cut r Ended) here e h = omega (arith, here, going_whole d r.kind r.body.items offset h)
+ended-stops d offset (Cut r Ended) here e h = omega (arith, here, going_whole d r.kind (body_of r) offset h)
 ended-stops d offset (Cut r Failed) here e h = cc
 ended-stops d offset (Nothing Ended) here e h = clash refl h
 ended-stops d offset (Nothing Failed) here e h = cc
@@ -448,16 +448,16 @@ unfolding Turns Unfailed AllAtEnd told past
 turns-stepping ys [] fuel w v t h g u end l = clash (ap (λ (w : Place). w.halt) t ∙ h) g
 turns-stepping ys (a ∷ xs) zero w v t h g u end l = absurd (omega arith)
 turns-stepping ys (Whole r ∷ xs) (suc fuel) w v (_, e, t) h g (read, u) (last, end) l =
-    let cut : take (body_length r.kind) (r.body.items ++ ys) ≡ r.body.items =
-    ap (λ (n : ℕ). take n (r.body.items ++ ys)) (sym e) ∙ take-append_seam r.body.items ys in
-    record_same ys xs fuel w v (Whole r) r.kind r.body.items
+    let cut : take (body_length r.kind) (body_of r ++ ys) ≡ body_of r =
+    ap (λ (n : ℕ). take n (body_of r ++ ys)) (sym e) ∙ take-append_seam (body_of r) ys in
+    record_same ys xs fuel w v (Whole r) r.kind (body_of r)
     (record { tells = refl; passes = refl; gives = refl; few = omega (arith, e); cuts = cut }) t h u end l (turns-stepping ys xs) _ refl
 turns-stepping ys (Cut r Ended ∷ xs) (suc fuel) w v (_, e, t) h g (read, u) (last, end) l =
-    let cut : take (body_length r.kind) (r.body.items ++ ys) ≡ r.body.items =
-    ap (λ (ys : List ℕ). take (body_length r.kind) (r.body.items ++ ys)) (last refl)
-    ∙ ap (take (body_length r.kind)) (append-nil r.body.items)
-    ∙ take_all (body_length r.kind) r.body.items (omega (arith, e)) in
-    record_same ys xs fuel w v (Cut r Ended) r.kind r.body.items
+    let cut : take (body_length r.kind) (body_of r ++ ys) ≡ body_of r =
+    ap (λ (ys : List ℕ). take (body_length r.kind) (body_of r ++ ys)) (last refl)
+    ∙ ap (take (body_length r.kind)) (append-nil (body_of r))
+    ∙ take_all (body_length r.kind) (body_of r) (omega (arith, e)) in
+    record_same ys xs fuel w v (Cut r Ended) r.kind (body_of r)
     (record { tells = refl; passes = refl; gives = refl; few = omega (arith, e); cuts = cut }) t h u end l (turns-stepping ys xs) _ refl
 turns-stepping ys (Cut r Failed ∷ xs) (suc fuel) w v t h g (read, u) end l = absurd (read refl)
 turns-stepping ys (Nothing Ended ∷ xs) (suc fuel) w v (_, e, t) h g (read, u) (last, end) l =

@@ -5,7 +5,7 @@ ghost use Rattle.std.specs.Prelude.{◌+◌, ◌^◌, ◌<◌, Some, ◌≡◌};
 ghost use Rattle.decks.specs.Deck.{body_length, fresh};
 ghost use Rattle.decks.specs.Stepped.{stepped};
 ghost use Rattle.decks.specs.Step.{Steps};
-ghost use Rattle.stream.specs.Arrival.{Arrives};
+ghost use Rattle.stream.specs.Arrival.{Arrives, body_of};
 ghost use Rattle.deck.specs.Run.{message, Takes, Turned, Played};
 
 use arrayvec::ArrayString;
@@ -72,11 +72,11 @@ impl Run {
     // A record, or what arrived of it before the input ended: its line, and whether the run stops after it.
     fn step(&mut self, part: &Record, line: &mut Text) -> bool
         requires { self.old.offset + 8 < 2 ^ 64 }
-        ensures steps { Steps (stepped self.old.deck.state part.now.kind part.now.body.items self.old.offset)
+        ensures steps { Steps (stepped self.old.deck.state part.now.kind (body_of part.now) self.old.offset)
             self.new.deck.state result line.new.bytes }
         ensures offset { self.new.offset ≡ self.old.offset + (1 + body_length part.now.kind) }
     {
-        let stops = self.deck.step(part.kind, &part.body, self.offset, line);
+        let stops = self.deck.step(part.kind, part.arrived(), self.offset, line);
         self.offset += 1 + body_length(part.kind) as u64;
         stops
     }

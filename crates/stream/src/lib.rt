@@ -8,8 +8,10 @@ ghost use Rattle.std.specs.Io.KnownBytes.{Consumes, IsAtEnd};
 ghost use Rattle.stream.specs.declared.Stop.TheVariants.{Ended};
 ghost use Rattle.stream.specs.Arrival.{Reads, Fills, Arrives, bytes_of, stop_of};
 
-use arrayvec::ArrayVec;
+mod records;
+
 use decks::records::body_length;
+pub use records::Record;
 use std::io::Read;
 
 // Why no more bytes came: the input ended, or a read failed.
@@ -26,15 +28,8 @@ pub struct Short {
     pub stop: Stop,
 }
 
-// A record's kind, which is the byte that arrived and may be no kind at all, and what arrived of its body.
-#[derive(Drop)]
-pub struct Record {
-    pub kind: u8,
-    pub body: ArrayVec<u8, 7>,
-}
-
 // What arrived of a deck: a record whole, a record cut short, or nothing more.
-#[derive(Drop)]
+#[derive(Clone, Copy)]
 pub enum Arrival {
     Whole(Record),
     Cut(Record, Stop),
@@ -77,6 +72,7 @@ fn fill<R: Read>(input: &mut R, body: &mut [u8]) -> Result<(), Short>
 }
 
 // The next record: its kind, and as much of its body as arrives.
+#[tactic(auto, using(decks::specs::StepLaws::body_low))]
 pub fn next_record<R: Read>(input: &mut R) -> Arrival
     ensures arrives { Arrives result }
     ensures bytes { Consumes (R.remaining input.old) (R.remaining input.new) (bytes_of result) }
@@ -87,13 +83,17 @@ pub fn next_record<R: Read>(input: &mut R) -> Arrival
         return Arrival::Nothing(short.stop);
     }
     let kind = first[0];
-    let mut body = ArrayVec::from([0u8; 7]);
-    body.truncate(body_length(kind));
-    match fill(input, body.as_mut_slice()) {
-        Ok(()) => Arrival::Whole(Record { kind, body }),
+    let mut body = [0u8; 7];
+    let need = body_length(kind);
+    match fill(input, &mut body[..need]) {
+        Ok(()) => Arrival::Whole(Record {
+            kind,
+            body,
+            count: need,
+        }),
         Err(short) => {
-            body.truncate(short.count);
-            Arrival::Cut(Record { kind, body }, short.stop)
+            let count = short.count;
+            Arrival::Cut(Record { kind, body, count }, short.stop)
         }
     }
 }
