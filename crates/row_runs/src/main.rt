@@ -1,24 +1,29 @@
 // Runs the row calls on the scope's figures and at the edges of what they accept, and prints what they answer.
 #![tactic(auto)]
 
-use std::io;
+use std::{fmt, io};
+
+// Numbers, each after a space.
+#[derive(Clone, Copy)]
+struct Numbers<'a>(&'a [u32]);
+
+impl fmt::Display for Numbers<'_> {
+    fn fmt<W: fmt::Write>(&self, f: &mut fmt::Formatter<W>) -> fmt::Result {
+        for number in self.0 {
+            write!(f, " {number}")?;
+        }
+        Ok(())
+    }
+}
 
 // The entries of a row, after a colon.
 fn entries<P: Print>(rt: &P, r: &[u32]) -> io::Result<()> {
-    print!(rt; " :")?;
-    for entry in r {
-        print!(rt; " {entry}")?;
-    }
-    Ok(())
+    print!(rt; " :{}", Numbers(r))
 }
 
-// What a call answered, as its numbers.
+// What a call answered, as its numbers: a line in one write.
 fn answer<P: Print>(rt: &P, name: &str, call: &str, numbers: &[u32]) -> io::Result<()> {
-    print!(rt; "{name} {call}")?;
-    for number in numbers {
-        print!(rt; " {number}")?;
-    }
-    println!(rt; "")
+    println!(rt; "{name} {call}{}", Numbers(numbers))
 }
 
 fn resultant<P: Print>(rt: &P, name: &str, p: u32, a: &[u32], b: &[u32]) -> io::Result<()> {
