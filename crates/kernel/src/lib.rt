@@ -9,6 +9,7 @@ ghost use Rattle.kernel.specs.Results.{RowResult, PlainResult, DivisionResult, D
 
 use checks::{Given, Refusal};
 use job::{Job, JobAnswer, ReadAnswer};
+use offers::SoundJob;
 use plain::Rows;
 
 // The answers are records of numbers, since C sees them.
@@ -152,14 +153,15 @@ pub fn lot(j: Job, points: &[u32], answers: &mut [u8]) -> JobAnswer
     }
 }
 
-// Reads the determinant's coefficients, lowest power of y first.
+// Reads the determinant's coefficients, lowest power of y first. The record is tested where it stands: a read hands no job
+// back, and `sounding::sound` would copy it.
 pub fn read(j: Job, out: &mut [u32]) -> ReadAnswer
     ensures { ReadResult j out.old result out.new }
 {
-    match sounding::sound(j) {
-        Ok(job) => reads::answer(reads::read(&job, out)),
-        Err(refusal) => reads::answer(Err(refusal)),
+    if !sounding::is_sound(&j) {
+        return reads::answer(Err(Refusal::Unsound));
     }
+    reads::answer(reads::read(&SoundJob { job: j }, out))
 }
 
 // Opening, the smallest points that suffice, and the read.
