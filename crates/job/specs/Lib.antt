@@ -1,6 +1,7 @@
 -- The job: what opening, offering, lots and reading do to it, which records are sound, and what is promised of them.
 pub mod Job
 pub mod Calls
+pub mod CallsLaws
 pub mod Sound
 pub mod Public
 pub mod Demand
