@@ -96,13 +96,13 @@ module _ (j : Job) (s : Standing j) (entries after : List ℕ) (r : ReadAnswer) 
       go true e = refl
       go false e = absurd (e refl)
 
-  read_wanting : (r.number ≡ 0 → ⊥) → read_line j ≡ line read_word (14 ∷ r.wanted ∷ [])
+  pub read_wanting : (r.number ≡ 0 → ⊥) → read_line j ≡ line read_word (14 ∷ r.wanted ∷ [])
   read_wanting no_number =
       let fourteen : reading j (room (pair_of j)) ≡ 14 = early (λ e. no_number (h.number ∙ exact ∙ e)) in
       let still : r.wanted ≡ wanted j = h.wanted ∙ rw (exact, fourteen) refl in
       read_line_wanting j fourteen ∙ ap (λ (w : ℕ). line read_word (14 ∷ w ∷ [])) (sym still)
 
-  read_done : (k : ℕ) → r.number ≡ 0 → k ≡ needed (pair_of j) → read_line j ≡ read_text (cond (eqb r.zero 0) (Some r.degree) None) (take k after)
+  pub read_done : (k : ℕ) → r.number ≡ 0 → k ≡ needed (pair_of j) → read_line j ≡ read_text (cond (eqb r.zero 0) (Some r.degree) None) (take k after)
   unfolding only_done out_after room needed degree_read zero_flag
   read_done k e at =
       let zero : reading j (room (pair_of j)) ≡ 0 = sym (h.number ∙ exact) ∙ e in

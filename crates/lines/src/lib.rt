@@ -1,7 +1,7 @@
 // The lines of a deck, each written into a buffer that holds it whole.
 #![tactic(auto)]
 
-mod text;
+pub mod text;
 
 ghost use Rattle.std.specs.Prelude.{◌≤◌, ◌≡◌};
 ghost use Rattle.lines.specs.Line.{line_text, line_room};

@@ -8,7 +8,7 @@ use arrayvec::ArrayString;
 use itoa::Buffer;
 
 // The decimal digits of a number.
-fn push_number<const CAP: usize>(n: u64, out: &mut ArrayString<CAP>)
+pub fn push_number<const CAP: usize>(n: u64, out: &mut ArrayString<CAP>)
     requires { array_string_len out.old + length (decimal n) ≤ CAP }
     ensures { out.new.bytes ≡ out.old.bytes ++ decimal n }
 {
@@ -17,7 +17,7 @@ fn push_number<const CAP: usize>(n: u64, out: &mut ArrayString<CAP>)
 }
 
 // A space and a number.
-fn push_spaced<const CAP: usize>(n: u64, out: &mut ArrayString<CAP>)
+pub fn push_spaced<const CAP: usize>(n: u64, out: &mut ArrayString<CAP>)
     requires { array_string_len out.old + length (decimal n) < CAP }
     ensures { out.new.bytes ≡ out.old.bytes ++ 32 ∷ decimal n }
 {

@@ -88,7 +88,7 @@ impl SoundJob {
 
     // Whether a point would be kept while points are wanted: 10, 12 and 11 refuse it
     #[tactic(auto, using(crate::proofs::Points::admitting))]
-    fn admit(&self, a: u32) -> Result<(), Refusal>
+    pub fn admit(&self, a: u32) -> Result<(), Refusal>
         ensures { outcome result ≡ point_number (pair_of self.now.job) (kept_points self.now.job) a }
     {
         if self.job.p <= a {

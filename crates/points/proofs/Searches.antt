@@ -12,10 +12,10 @@ use Rattle.euclid.specs.RowLaws.{Ended, trim-ended, trim-length, trim-get_or, de
 use Rattle.scope.specs.Pair.{some, largest}
 use Rattle.scope.specs.Search.{none-some, one-some, largest_is}
 
-some-nonzero : (n : ℕ) (f : ℕ → ℕ) (i : ℕ) → i < n → f i ≢ 0 → some n (λ k. not (eqb (f k) 0)) ≡ true
+pub some-nonzero : (n : ℕ) (f : ℕ → ℕ) (i : ℕ) → i < n → f i ≢ 0 → some n (λ k. not (eqb (f k) 0)) ≡ true
 some-nonzero n f i l h = one-some n (λ k. not (eqb (f k) 0)) i l (ap not (ne_eqb (f i) 0 h))
 
-none-nonzero : (n : ℕ) (f : ℕ → ℕ) → ((k : ℕ) → k < n → f k ≡ 0) → some n (λ k. not (eqb (f k) 0)) ≡ false
+pub none-nonzero : (n : ℕ) (f : ℕ → ℕ) → ((k : ℕ) → k < n → f k ≡ 0) → some n (λ k. not (eqb (f k) 0)) ≡ false
 none-nonzero n f h = none-some n (λ k. not (eqb (f k) 0)) (λ k l. ap not (eq-eqb (f k) 0 (h k l)))
 
 module _ (l : List ℕ) where

@@ -64,7 +64,7 @@ impl Table<'_> {
     }
 
     // The rows at y = a, lowest power of x first
-    fn row_at(self, p: Modulus, a: u32, out: &mut [u32])
+    pub fn row_at(self, p: Modulus, a: u32, out: &mut [u32])
         requires { length out.old ≡ self.m + 1 }
         ensures { out.new ≡ row_at p.value self.entry.m 16 (term 16 self.entry.entries.now) a }
     {

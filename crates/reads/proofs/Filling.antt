@@ -83,7 +83,7 @@ module _ (j : Job) (s : Standing j) (fresh : j.count ≡ 0) where
     pub filling_few : k.count ≤ needed (pair_of j)
     filling_few = omega (arith, filling-count, h.few)
 
-    filling-below : k.count < needed (pair_of j) → a < j.p
+    pub filling-below : k.count < needed (pair_of j) → a < j.p
     unfolding enough pair_of
     filling-below wanted = elim (dec_le j.p a) [ yes l ↦ absurd (full (omega (arith, h.within))) | no l ↦ omega arith ]
       where

@@ -45,7 +45,7 @@ Lost P points values i = kept_at P (take i points) (get_or points i 0) (get_or v
 
 module _ (P : Pair) (points values : List ℕ) where
   module _ (i : ℕ) where
-    Fine : Type 0
+    pub Fine : Type 0
     Fine = (get_or points i 0 < P.p) × (among (get_or points i 0) (take i points) ≡ false) × (usable P (get_or points i 0) ≡ true)
 
     at_each : Kept P points values i → Fine × (get_or values i 0 ≡ kept P (get_or points i 0))
