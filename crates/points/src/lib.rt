@@ -1,7 +1,7 @@
 // Arithmetic on lent slices: values of polynomials, a pair of tables at a point, and Newton's rule.
 #![tactic(auto)]
 
-ghost use Rattle.std.specs.Prelude.{◌≡◌, ℕ, cond, not, ◌+◌, ◌*◌, ◌-◌, ◌<◌, ◌≤◌, eqb, length, get_or, Option, Some, None, IfSome};
+ghost use Rattle.std.specs.Prelude.{◌≡◌, ℕ, cond, not, ◌+◌, ◌*◌, ◌-◌, ◌<◌, ◌≤◌, ◌++◌, eqb, length, get_or, drop, Option, Some, None, IfSome};
 ghost use Rattle.residue.specs.Residue.{residues, res, val};
 ghost use Rattle.residue.specs.Inverse.{inv};
 ghost use Rattle.polynomial.specs.Interpolation.{newton};
@@ -63,12 +63,13 @@ impl Table<'_> {
         value_at(p, &entries[i * 17..=i * 17 + self.d], a)
     }
 
-    // The rows at y = a, lowest power of x first
+    // The rows at y = a, lowest power of x first, in the first m + 1 places of out
     pub fn row_at(self, p: Modulus, a: u32, out: &mut [u32])
-        requires { length out.old ≡ self.m + 1 }
-        ensures { out.new ≡ row_at p.value self.entry.m 16 (term 16 self.entry.entries.now) a }
+        requires { self.m + 1 ≤ length out.old }
+        ensures { out.new ≡ row_at p.value self.entry.m 16 (term 16 self.entry.entries.now) a ++ drop (self.entry.m + 1) out.old }
     {
-        for (i, value) in out.iter_mut().enumerate() {
+        let rows = &mut out[..self.m + 1];
+        for (i, value) in rows.iter_mut().enumerate() {
             *value = self.row_value(p.value, i, a);
         }
     }

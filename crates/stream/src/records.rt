@@ -16,7 +16,7 @@ pub struct Record {
 impl Record {
     ghost use Rattle.stream.specs.Arrival.{body_of};
 
-    // What arrived of its body
+    // What arrived of its body.
     pub fn arrived(&self) -> &[u8]
         ensures { result.now ≡ body_of self.now }
     {
