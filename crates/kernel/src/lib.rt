@@ -100,8 +100,8 @@ pub fn divisor<'a>(a: &'a [u32], b: &'a [u32]) -> &'a [u32]
     rows::divisor(a, b)
 }
 
-// Opens a job on A of degrees m in x and e in y, and B of degrees n and f; the strict opening. Its parameters, and those of
-// `one_shot`, are those of the scope, as C has them.
+// Opens a job on A of degrees m in x and e in y, and B of degrees n and f; the strict opening, worked out in the answer's
+// record. Its parameters, and those of `one_shot`, are those of the scope, as C has them.
 pub fn open(p: u32, m: u32, e: u32, n: u32, f: u32, a: &[u32], b: &[u32]) -> JobAnswer
     ensures { OpenResult p m e n f a.now b.now result }
 {
@@ -111,13 +111,14 @@ pub fn open(p: u32, m: u32, e: u32, n: u32, f: u32, a: &[u32], b: &[u32]) -> Job
         e: f,
         entries: b,
     };
-    match opening::strict(p, a, b) {
-        Ok(opened) => JobAnswer {
-            number: 0,
-            job: opened.job,
-        },
-        Err(refusal) => refused(refusal, Job::default()),
+    let mut answer = JobAnswer {
+        number: 0,
+        job: Job::default(),
+    };
+    if let Err(refusal) = opening::strict_in(p, a, b, &mut answer.job) {
+        answer.number = refusal.number();
     }
+    answer
 }
 
 // Offers one point.

@@ -6,7 +6,8 @@
 --   facts               what the tests before say of the tables as they came
 --   table_of_a, table_of_b    each laid-out table with its true degree
 --   refused-scarce      too few usable points: 8
---   accepted-number, accepted_job, accepted_sound     enough of them: 0, and the job, which is sound
+--   accepted-number, accepted_job     enough of them: 0, and the job
+--   strict_sound        a job that the strict opening leaves is sound
 use Prim.Native.Nat.{ℕ, ◌+◌, ◌*◌, ◌≤◌}
 use native.Mathlib.Omega.{arith}
 use mathlib.Core.Bool.{Bool, true, false, cond, not}
@@ -113,6 +114,8 @@ module _ {p m e n f : ℕ} {s t a b : List ℕ} {da db : ℕ} (h : Found p m e n
     accepted_job many =
         fresh_opened ∙ sym (ap (λ (b : Bool). cond b (opened p m e n f s t) blank) (eq-eqb (strict_number p m e n f s t) 0 (sym (accepted-number many))))
 
-    pub accepted_sound : r ≡ true → sound? (fresh p m n da db a b) ≡ true
-    accepted_sound many =
-        (standing_test _).1 (subst Standing (sym fresh_opened) (opened_standing p m e n f s t (unfold strict_number in sym (accepted-number many))))
+pub strict_sound : (p m e n f : ℕ) (s t : List ℕ) (j : Job) → 0 ≡ strict_number p m e n f s t → j ≡ strict_job p m e n f s t → sound? j ≡ true
+unfolding strict_job
+strict_sound p m e n f s t j none at =
+    let opens : strict_job p m e n f s t ≡ opened p m e n f s t = ap (λ (b : Bool). cond b (opened p m e n f s t) blank) (eq-eqb (strict_number p m e n f s t) 0 (sym none)) in
+    (standing_test _).1 (subst Standing (sym (at ∙ opens)) (opened_standing p m e n f s t (unfold strict_number in sym none)))

@@ -1,7 +1,7 @@
-// Opening: from two tables to a sound job, or to the first refusal.
+// Opening: from two tables to a job, or to the first refusal.
 #![tactic(auto)]
 
-ghost use Rattle.std.specs.Prelude.{◌≡◌, IfOk};
+ghost use Rattle.std.specs.Prelude.{◌≡◌, IfOk, IfErr};
 ghost use Rattle.checks.specs.Outcome.{outcome};
 ghost use Rattle.job.specs.Job as layout;
 ghost use Rattle.job.specs.Public.{strict_number, strict_job};
@@ -25,11 +25,12 @@ pub fn spread(sheet: Sheet) -> [u32; 289]
     out
 }
 
-// The strict opening: the first refusal, or the job with no point kept.
-// D, and with it the count of usable points, goes by the powers of y that really occur.
-pub fn strict(p: u32, a: Given, b: Given) -> Result<SoundJob, Refusal>
+// The strict opening, worked out in the record that it opens: the first refusal, which leaves the record as it came, or the
+// job with no point kept. D, and with it the count of usable points, goes by the powers of y that really occur.
+pub fn strict_in(p: u32, a: Given, b: Given, job: &mut Job) -> Result<(), Refusal>
     ensures number { outcome result ≡ strict_number p a.entry.m a.entry.e b.entry.m b.entry.e a.entry.entries.now b.entry.entries.now }
-    ensures job { IfOk result (λ j. j.job ≡ strict_job p a.entry.m a.entry.e b.entry.m b.entry.e a.entry.entries.now b.entry.entries.now) }
+    ensures opened { IfOk result (λ _. job.new ≡ strict_job p a.entry.m a.entry.e b.entry.m b.entry.e a.entry.entries.now b.entry.entries.now) }
+    ensures refused { IfErr result (λ _. job.new ≡ job.old) }
 {
     let sheets = checks::shape(p, a, b)?;
     let laid_a = spread(sheets.a);
@@ -55,17 +56,25 @@ pub fn strict(p: u32, a: Given, b: Given) -> Result<SoundJob, Refusal>
     if !pair.has_usable(wanted) {
         return Err(Refusal::Scarce);
     }
-    let job = Job {
-        p,
-        m: a.m,
-        n: b.m,
-        da: da as u32,
-        db: db as u32,
-        count: 0,
-        a: laid_a,
-        b: laid_b,
-        points: [0u32; 513],
-        values: [0u32; 513],
-    };
+    job.p = p;
+    job.m = a.m;
+    job.n = b.m;
+    job.da = da as u32;
+    job.db = db as u32;
+    job.count = 0;
+    job.a = laid_a;
+    job.b = laid_b;
+    job.points = [0; 513];
+    job.values = [0; 513];
+    Ok(())
+}
+
+// The same, as a sound job of its own.
+pub fn strict(p: u32, a: Given, b: Given) -> Result<SoundJob, Refusal>
+    ensures number { outcome result ≡ strict_number p a.entry.m a.entry.e b.entry.m b.entry.e a.entry.entries.now b.entry.entries.now }
+    ensures job { IfOk result (λ j. j.job ≡ strict_job p a.entry.m a.entry.e b.entry.m b.entry.e a.entry.entries.now b.entry.entries.now) }
+{
+    let mut job = Job::default();
+    strict_in(p, a, b, &mut job)?;
     Ok(SoundJob { job })
 }
